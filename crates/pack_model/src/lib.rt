@@ -1,0 +1,18 @@
+//! The problem that canpack plans and checks: the network, the signals, and what follows from them,
+//! with the small list types that contracts see as lists.
+//!
+//! The one contract that upper crates use is that of [`problem_of`]: it gives the items, the senders
+//! and the signals of a problem, or the first refusal.
+#![tactic(auto)]
+
+mod lists;
+mod memory;
+mod name;
+mod network;
+mod signal;
+
+pub use lists::{Chain, Labels, Payload, Values};
+pub use memory::Memory;
+pub use name::{Name, NameFault};
+pub use network::{Network, network_stands};
+pub use signal::{Signal, Signals, signal_stands};
