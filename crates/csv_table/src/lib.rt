@@ -1,0 +1,11 @@
+//! What all readers and writers of CSV texts stand on: the records of a text, its header, columns in order,
+//! decimals, and the text of a record.
+//!
+//! The one contract that upper crates use is that of [`Rows::next`]: it takes the first of the records that are left.
+#![tactic(auto)]
+
+mod decimal;
+mod rows;
+
+pub use decimal::decimal_in;
+pub use rows::Rows;
