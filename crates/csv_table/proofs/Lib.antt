@@ -1,3 +1,4 @@
 pub mod Records
 pub mod Decimals
 pub mod Fields
+pub mod RoundTrip
