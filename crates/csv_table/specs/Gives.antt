@@ -8,10 +8,10 @@ abbrev pub Explains : {Y F : Type 0} → Option F → Result Y F → Type 0
 Explains None read = Unit {0}
 Explains (Some f) read = read ≡ Err f
 
--- what was returned is what is read, unless memory ran out
-abbrev pub Gives : {X E F : Type 0} → (E → Option F) → Result X E → Result X F → Type 0
-Gives meant (Ok x) read = read ≡ Ok x
-Gives meant (Err e) read = Explains (meant e) read
+-- what was returned, seen by view, is what is read, unless memory ran out
+abbrev pub Gives : {X Y E F : Type 0} → (X → Y) → (E → Option F) → Result X E → Result Y F → Type 0
+Gives view meant (Ok x) read = read ≡ Ok (view x)
+Gives view meant (Err e) read = Explains (meant e) read
 
 -- the column that broke its rule
 abbrev pub column_of : ColumnFault → Option ℕ

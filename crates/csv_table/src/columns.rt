@@ -53,7 +53,7 @@ pub fn field_at(row: &ByteRecord, column: u8) -> &[u8]
 
 /// The count of fields, which is to be `count`.
 pub fn count_at(row: &ByteRecord, count: usize) -> Result<usize, ColumnFault>
-    ensures { Gives column_of result (count_in count (fields_of row.now)) }
+    ensures { Gives (λ x. x) column_of result (count_in count (fields_of row.now)) }
 {
     if row.len() != count {
         return Err(ColumnFault::Column(0));
@@ -63,7 +63,7 @@ pub fn count_at(row: &ByteRecord, count: usize) -> Result<usize, ColumnFault>
 
 /// A column with a name.
 pub fn name_at(alloc: Global, row: &ByteRecord, column: u8) -> Result<Name, ColumnFault>
-    ensures { Gives column_of result (name_in column (fields_of row.now)) }
+    ensures { Gives (λ x. x) column_of result (name_in column (fields_of row.now)) }
 {
     match Name::new(alloc, field_at(row, column)) {
         Ok(name) => Ok(name),
@@ -74,7 +74,7 @@ pub fn name_at(alloc: Global, row: &ByteRecord, column: u8) -> Result<Name, Colu
 
 /// A column with a decimal from `low` to `high`.
 pub fn number_at(row: &ByteRecord, column: u8, low: u32, high: u32) -> Result<u32, ColumnFault>
-    ensures { Gives column_of result (number_in low high column (fields_of row.now)) }
+    ensures { Gives (λ x. x) column_of result (number_in low high column (fields_of row.now)) }
 {
     match decimal_in(field_at(row, column), u64::from(low), u64::from(high)) {
         Some(number) => Ok(number as u32),
@@ -89,7 +89,7 @@ pub fn optional_at(
     low: u32,
     high: u32,
 ) -> Result<Option<u32>, ColumnFault>
-    ensures { Gives column_of result (optional_in low high column (fields_of row.now)) }
+    ensures { Gives (λ x. x) column_of result (optional_in low high column (fields_of row.now)) }
 {
     if field_at(row, column).is_empty() {
         return Ok(None);

@@ -1,13 +1,9 @@
-// A library with one function.
+//! The texts of a network and of signals: NETWORK is one JSON object, SIGNALS is CSV.
+//!
+//! The one contract that upper crates use is that each reader gives exactly the value of its text, or the first
+//! refusal, and that what is written reads back.
 #![tactic(auto)]
 
-ghost use Rattle.std.specs.Prelude.{◌≡◌};
-ghost use Rattle.input_text.specs.Echo.{echo_of};
+mod signals;
 
-// The `ensures` clause is the contract: what `echo` returns is `echo_of` of its argument, a definition
-// in `specs/Echo.antt`, which a caller's clause can cite too.
-pub fn echo(x: usize) -> usize
-    ensures { result ≡ echo_of x }
-{
-    x
-}
+pub use signals::{SignalsFault, read_signals};
