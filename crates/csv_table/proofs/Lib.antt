@@ -2,3 +2,4 @@ pub mod Records
 pub mod Decimals
 pub mod Fields
 pub mod RoundTrip
+pub mod Ranges

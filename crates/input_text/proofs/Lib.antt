@@ -1,1 +1,2 @@
 pub mod SignalRows
+pub mod SignalLaws

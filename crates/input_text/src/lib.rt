@@ -6,4 +6,4 @@
 
 mod signals;
 
-pub use signals::{SignalsFault, read_signals};
+pub use signals::{SignalsFault, read_signals, write_signals};
