@@ -1,14 +1,14 @@
 -- Laws of stages and of their demand.
-use Rattle.std.proofs.Common.{◌≡◌, ℕ, ◌+◌, ◌*◌, ◌<◌, ◌≤◌, List, length, take, drop, nat_eq, true, ap, Option, Some, None, IfSome, IfNone, arith, add-zero, length-take, length-drop}
-use Rattle.std.proofs.lemmas.List.Elements.{All-take, All-drop, All-contains}
+use Rattle.std.proofs.Common.{◌≡◌, ℕ, ◌+◌, ◌*◌, ◌<◌, ◌≤◌, List, length, take, drop, get_or, nat_eq, true, ap, Option, Some, None, IfSome, IfNone, arith, add-zero, length-take, length-drop}
+use Rattle.std.proofs.lemmas.List.Elements.{All-take, All-drop, All-contains, All-get_or}
 use Rattle.std.proofs.lemmas.List.Sums.{sum_by-le-sum_by, sum_by_more}
 use Rattle.std.proofs.lemmas.Bool.{eqb-true}
 use Rattle.std.proofs.lemmas.Map.Steps.{length-le_from_distinct_below}
 use Rattle.std.proofs.lemmas.Map.Views.{Contains-from_any}
 use Rattle.std.specs.List.{IsDistinct, list_any}
 use Rattle.busy_period.specs.declared.timed.Timed.{Timed}
-use Rattle.busy_period.specs.Timed.{frame_at}
-use Rattle.busy_period.specs.Stage.{AreNamed, IsStage, IsSameSet, own_of, higher_of, lower_of}
+use Rattle.busy_period.specs.Timed.{IsInRange, none_frame, frame_at}
+use Rattle.busy_period.specs.Stage.{AreNamed, IsStage, IsSameSet, own_number, own_of, higher_of, lower_of}
 use Rattle.busy_period.specs.Demand.{asks_of, work_of, blocking_of, demand_of, IsSameTest}
 use Rattle.busy_period.specs.Least.{IsLeast}
 use Rattle.busy_period.specs.Busy.{IsFit, IsBusy, IsShortBusy, LeastBusy}
@@ -23,6 +23,18 @@ order_is_few frames order place stage =
     let few : length order ≤ length frames = length-le_from_distinct_below order (length frames) stage.distinct below in
     let frames_few : length frames ≤ 128 = stage.few in
     omega arith
+
+-- each frame that is named is in range
+pub named_is_in_range : (frames : List Timed) (numbers : List ℕ) (index : ℕ) → AreNamed frames numbers → index < length numbers
+    → IsInRange (frame_at frames (get_or numbers index 0))
+named_is_in_range frames numbers index named inside =
+    All-get_or IsInRange frames (get_or numbers index 0) none_frame (All-get_or (λ i. i < length frames) numbers index 0 inside named.named) named.in_range
+
+-- and so is the frame under test
+pub own_is_in_range : (frames : List Timed) (order : List ℕ) (place : ℕ) → IsStage frames order place → IsInRange (own_of frames order place)
+own_is_in_range frames order place stage =
+    All-get_or IsInRange frames (own_number order place) none_frame
+    (All-get_or (λ i. i < length frames) order place 0 stage.inside stage.named) stage.in_range
 
 -- a part of an order names frames
 pub front_is_named : (frames : List Timed) (order : List ℕ) (place n : ℕ) → IsStage frames order place → n ≤ length order

@@ -24,7 +24,8 @@ pub fn work(frames: &[Timed], numbers: &[u32], time: u64) -> u128
 /// The greatest ticks of the frames of these numbers, 0 where there is none.
 fn greatest_ticks(frames: &[Timed], numbers: &[u32]) -> u64
     requires { AreNamed frames.now numbers.now }
-    ensures { result ≡ blocking_of frames.now numbers.now }
+    ensures value { result ≡ blocking_of frames.now numbers.now }
+    ensures bound { result ≤ 100000000 }
 {
     let mut greatest = 0;
     for &number in numbers {
@@ -37,7 +38,8 @@ fn greatest_ticks(frames: &[Timed], numbers: &[u32]) -> u64
 /// a lower one that is on the bus already.
 pub fn blocking(frames: &[Timed], order: &[u32], place: usize) -> u64
     requires { IsStage frames.now order.now place }
-    ensures { result ≡ blocking_of frames.now (lower_of order.now place) }
+    ensures value { result ≡ blocking_of frames.now (lower_of order.now place) }
+    ensures bound { result ≤ 100000000 }
 {
     greatest_ticks(frames, &order[place + 1..])
 }

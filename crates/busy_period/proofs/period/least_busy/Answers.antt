@@ -9,11 +9,11 @@ pub returns-clause-least : goal.returns-clause-least
 returns-clause-least c =
     busy_of_climb c.args.frames.now c.args.order.now c.args.place c.in_ok-limit.limit c.least_fit.result c.requires.inside
     (omega (arith, c.in_ok-limit.ensures {u = tt}))
-    (rw c.blocking-blocked.ensures at c.least_fit.ensures.least)
+    (rw c.blocking-blocked.ensures.value at c.least_fit.ensures.least)
     c.least_fit.ensures.within
 
 pub returns-clause-none : goal.returns-clause-none
 returns-clause-none c =
     none_of_climb c.args.frames.now c.args.order.now c.args.place c.in_ok-limit.limit c.least_fit.result c.requires.inside
     (omega (arith, c.in_ok-limit.ensures {u = tt}))
-    (rw c.blocking-blocked.ensures at c.least_fit.ensures.none)
+    (rw c.blocking-blocked.ensures.value at c.least_fit.ensures.none)
