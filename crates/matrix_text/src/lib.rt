@@ -5,8 +5,11 @@
 #![tactic(auto)]
 
 mod checks;
+mod frames;
+mod labels;
 mod matrix;
 mod overlap;
 mod signal_rows;
 
+pub use labels::labels_of;
 pub use matrix::{Header, Matrix, MatrixRow};
