@@ -1,5 +1,5 @@
 -- What is written is read back, record by record.
-use Rattle.std.proofs.Common.{◌≡◌, ℕ, ◌==◌, Bool, true, false, cond, List, [], ◌∷◌, ◌++◌, map, Some, refl, sym, ap, ◌∙◌, append_assoc, inl, inr}
+use Rattle.std.proofs.Common.{◌≡◌, ◌<◌, ℕ, ◌+◌, ◌==◌, add-one, drop, drop-cons, get_or, length, Bool, true, false, cond, List, [], ◌∷◌, ◌++◌, map, Some, refl, sym, ap, ◌∙◌, append_assoc, inl, inr}
 use Rattle.std.proofs.lemmas.Bool.{cases_Bool}
 use Rattle.csv.specs.Machine.{next_record}
 use Rattle.csv.specs.Reading.{records_from, strip_bom}
@@ -54,3 +54,11 @@ rows_of-rows_text b name names rows e =
 pub map_read_back : {A : Type 0} (f : A → List (List ℕ)) → ((x : A) → read_back (f x) ≡ f x) → (xs : List A) → map read_back (map f xs) ≡ map f xs
 map_read_back f h [] = refl
 map_read_back f h (x ∷ xs) = rw (h x, map_read_back f h xs) refl
+
+-- one more row: the text so far and that of the rows that are left are the whole
+pub text_more : {A : Type 0} (f : A → List (List ℕ)) (xs : List A) (i : ℕ) (x : A) (before after total : List ℕ) → i < length xs → x ≡ get_or xs i x
+    → after ≡ before ++ row_text default_writer (f x) → before ++ rows_text (map f (drop i xs)) ≡ total → after ++ rows_text (map f (drop (i + 1) xs)) ≡ total
+text_more f xs i x before after total lt at step whole =
+    let split : before ++ rows_text (map f (drop i xs)) ≡ before ++ (row_text default_writer (f x) ++ rows_text (map f (drop (i + 1) xs))) =
+      rw (add-one, drop-cons xs i x, ← at) refl in
+    ap (λ (t : List ℕ). t ++ rows_text (map f (drop (i + 1) xs))) step ∙ append_assoc before (row_text default_writer (f x)) _ ∙ sym split ∙ whole

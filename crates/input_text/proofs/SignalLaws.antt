@@ -1,5 +1,5 @@
 -- The laws of the text of signals: what is read stands, and what is written is read.
-use Rattle.std.proofs.Common.{◌≡◌, ◌≤◌, ◌<◌, ◌+◌, ◌==◌, ◌∷◌, ℕ, zero, suc, Bool, true, false, cond, List, [], length, map, Option, Some, None, Result, Ok, Err, refl, sym, ap, ◌∙◌, arith, decimal, codes, inl, inr}
+use Rattle.std.proofs.Common.{◌≡◌, ◌≤◌, ◌<◌, ◌+◌, ◌==◌, ◌∷◌, ◌++◌, ℕ, zero, suc, Bool, true, false, cond, List, [], length, map, Option, Some, None, Result, Ok, Err, refl, sym, ap, ◌∙◌, arith, decimal, codes, inl, inr}
 use Rattle.std.specs.Prelude.{IfOk, IfSome, IsTrue, All, unwrap_or}
 use Rattle.std.specs.List.{AllByRecursion}
 use Rattle.std.specs.Global.{Vec}
@@ -13,8 +13,9 @@ use Rattle.csv_table.specs.Rows.{rows_of}
 use Rattle.csv_table.proofs.Ranges.{Within, name_back, name_named, number_back, number_within, optional_back, optional_within}
 use Rattle.csv_table.proofs.RoundTrip.{map_read_back, rows_of-rows_text}
 use Rattle.csv_table.specs.Gives.{Gives}
+use Rattle.csv_table.specs.Writing.{optional_text}
 use Rattle.input_text.specs.declared.signals.SignalsFault.{SignalsFault}
-use Rattle.input_text.specs.SignalsText.{signals_refusal, SignalsRefusal, bad_header, bad_row, too_many, in_row, pdu_text, signal_fields, signal_of, signals_from, signals_header, signals_in, signals_of, signals_text}
+use Rattle.input_text.specs.SignalsText.{signals_refusal, SignalsRefusal, bad_header, bad_row, too_many, ReadsBack, in_row, signal_fields, signal_of, signals_from, signals_header, signals_in, signals_of, signals_text}
 
 -- a signal that stands, with its names
 pub record IsSignal (s : Signal) : Type 0 where
@@ -114,30 +115,27 @@ signals_stand text signals e = by (rows_of text) e
 -- ---- and back
 
 pdu_back : (o : Option ℕ) (a b c d e f : List ℕ) → IfSome o (λ id. 1 ≤ id) → IfSome o (λ id. id ≤ 4294967295)
-    → optional_in 1 4294967295 3 (a ∷ b ∷ pdu_text o ∷ c ∷ d ∷ e ∷ f ∷ []) ≡ Ok o
+    → optional_in 1 4294967295 3 (a ∷ b ∷ optional_text o ∷ c ∷ d ∷ e ∷ f ∷ []) ≡ Ok o
 pdu_back None a b c d e f low high = refl
 pdu_back (Some id) a b c d e f low high = optional_back 1 4294967295 3 id (a ∷ b ∷ decimal id ∷ c ∷ d ∷ e ∷ f ∷ []) refl (omega arith) low high
 
 -- a written signal is read
-pub signal_back : (s : Signal) → IsSignal s → IfSome s.pdu (λ id. id ≤ 4294967295) → signal_of (signal_fields s) ≡ Ok s
+pub signal_back : (s : Signal) → IsSignal s → IfSome s.pdu (λ id. id ≤ 4294967295) → ReadsBack s
 signal_back s is pdu_high =
     let fields = signal_fields s in
     let stands = is.stands in
     let pdu = pdu_back s.pdu s.name s.sender (decimal s.bits) (decimal s.period_us) (decimal s.deadline_us) (decimal s.jitter_us) stands.pdu_low pdu_high in
-    rw (name_back 1 s.name fields refl is.name, name_back 2 s.sender fields refl is.sender, pdu,
+    record { signal = rw (name_back 1 s.name fields refl is.name, name_back 2 s.sender fields refl is.sender, pdu,
     number_back 1 512 4 s.bits fields refl (omega arith) stands.bits_low stands.bits_high,
     number_back 1 100000000 5 s.period_us fields refl (omega arith) stands.period_low stands.period_high,
     optional_back 1 100000000 6 s.deadline_us fields refl (omega arith) stands.deadline_low stands.deadline_high,
-    optional_back 0 100000000 7 s.jitter_us fields refl (omega arith) (omega arith) stands.jitter_high) refl
-
-abbrev pub ReadsBack : Signal → Type 0
-ReadsBack s = signal_of (signal_fields s) ≡ Ok s
+    optional_back 0 100000000 7 s.jitter_us fields refl (omega arith) (omega arith) stands.jitter_high) refl }
 
 rows_back : (n : ℕ) (signals : List Signal) → n + length signals ≤ 2050 → AllByRecursion ReadsBack signals → signals_from n (map signal_fields signals) ≡ Ok signals
 rows_back n [] few h = refl
 rows_back n (s ∷ ss) few h =
     let room : (n == 2050) ≡ false = ne_eqb n 2050 (λ e. absurd (omega (arith, e))) in
-    rw (room, h.0, rows_back (n + 1) ss (omega arith) h.1) refl
+    rw (room, h.0.signal, rows_back (n + 1) ss (omega arith) h.1) refl
 
 -- the written text is read
 pub signals_back : (signals : List Signal) → length signals ≤ 2048 → All ReadsBack signals → signals_of (signals_text signals) ≡ Ok signals
@@ -155,3 +153,9 @@ read_stand text (Err e) h = tt
 pub read_few : (text : List ℕ) (r : Result (Vec Signal) SignalsFault) → Gives (λ v. v.items) signals_refusal r (signals_of text) → IfOk r (λ v. length v.items ≤ 2048)
 read_few text (Ok v) h = (signals_stand text v.items h).1
 read_few text (Err e) h = tt
+
+-- ---- what a writer wrote
+
+-- a header and rows, as they were written one after the other
+pub written : (text after header start head rows : List ℕ) → text ≡ after → after ≡ header ++ rows → header ≡ start ++ head → start ≡ [] → text ≡ head ++ rows
+written text after header start head rows a b c d = a ∙ b ∙ ap (λ (x : List ℕ). x ++ rows) (c ∙ ap (λ (x : List ℕ). x ++ head) d)

@@ -3,7 +3,7 @@ use Rattle.std.specs.Prelude.{◌≡◌, ℕ, ◌+◌, ◌==◌, ◌∷◌, [], 
 use Rattle.pack_model.specs.declared.signal.Signal.{Signal}
 use Rattle.csv_table.specs.Columns.{◌>>=◌, is_row, count_in, name_in, number_in, optional_in}
 use Rattle.csv_table.specs.Rows.{rows_of}
-use Rattle.csv_table.specs.Writing.{rows_text}
+use Rattle.csv_table.specs.Writing.{optional_text, rows_text}
 use Rattle.input_text.specs.declared.signals.SignalsFault.{SignalsFault}
 use Rattle.input_text.specs.declared.signals.SignalsFault.TheVariants as fault
 
@@ -68,13 +68,13 @@ signals_refusal fault.TooManySignals = Some too_many
 signals_refusal fault.Memory = None
 
 -- the fields of a signal as they are written
-abbrev pub pdu_text : Option ℕ → List ℕ
-pdu_text None = []
-pdu_text (Some id) = decimal id
-
 abbrev pub signal_fields : Signal → List (List ℕ)
 signal_fields s =
-    s.name ∷ s.sender ∷ pdu_text s.pdu ∷ decimal s.bits ∷ decimal s.period_us ∷ decimal s.deadline_us ∷ decimal s.jitter_us ∷ []
+    s.name ∷ s.sender ∷ optional_text s.pdu ∷ decimal s.bits ∷ decimal s.period_us ∷ decimal s.deadline_us ∷ decimal s.jitter_us ∷ []
+
+-- the written fields of a signal are read as the signal
+pub record ReadsBack (s : Signal) : Type 0 where
+  pub signal : signal_of (signal_fields s) ≡ Ok s
 
 -- the text that is written for signals
 abbrev pub signals_text : List Signal → List ℕ
