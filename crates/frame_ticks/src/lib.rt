@@ -1,0 +1,10 @@
+//! The bits of a CAN FD base frame, their stuffing, and how long the frame lasts, as ISO 11898-1 has
+//! them.
+//!
+//! The one contract that upper crates use is that of [`worst_ticks`]: no frame with so many data
+//! bytes lasts longer.
+#![tactic(auto)]
+
+mod worst;
+
+pub use worst::{MAX_TICKS, worst_ticks};

@@ -1,0 +1,3 @@
+pub mod BySender
+pub mod Distinct
+pub mod Steps
