@@ -1,5 +1,5 @@
 -- A written network is read: its line, byte by byte, to tokens, to a value.
-use Rattle.std.proofs.Common.{◌≡◌, ◌≤◌, ◌<◌, ◌^◌, ◌++◌, ◌∷◌, ℕ, Bool, true, false, cond, List, [], Option, Some, None, Result, Ok, Err, refl, sym, ap, subst, ◌∙◌, arith, codes, decimal, nat_le, option_and_then}
+use Rattle.std.proofs.Common.{◌≡◌, ◌≤◌, ◌<◌, ◌^◌, ◌++◌, ◌∷◌, ℕ, true, List, [], Option, Some, Ok, refl, ap, ◌∙◌, arith, codes, decimal, nat_le, option_and_then}
 use Rattle.std.specs.Prelude.{IsUtf8}
 use Rattle.std.specs.Str.{is_utf8}
 use Rattle.std.proofs.lemmas.Bool.{le-leb}
@@ -15,7 +15,7 @@ use Rattle.json.proofs.Printed.Numbers.{lex-number}
 use Rattle.json.proofs.Printed.Utf8.{IsUtf8-are_ascii, are_ascii}
 use Rattle.csv.specs.Reading.{strip_bom}
 use Rattle.serde_json.specs.Data.{Data, number, unsigned, object, member, no_members}
-use Rattle.serde_json.specs.Read.{max_depth, of_json, number_of, read}
+use Rattle.serde_json.specs.Read.{max_depth, of_json, read}
 use Rattle.serde_json.proofs.Numbers.{number_of-decimal}
 use Rattle.serde_json.proofs.OnLiterals.{serde_json_on_literals}
 use Rattle.pack_model.specs.Network.{NetworkStands}
@@ -169,8 +169,12 @@ ranged_back low high n above below =
 
 members_back : (n : Network) → NetworkStands n → network_in (value_of n.ticks_per_us n.nominal_ticks n.data_ticks n.first_id) ≡ Ok n
 members_back n s =
-    rw (ranged_back 1 1000 n.ticks_per_us s.ticks_low s.ticks_high, ranged_back 1 10000 n.nominal_ticks s.nominal_low s.nominal_high,
-    ranged_back 1 n.nominal_ticks n.data_ticks s.data_low s.data_high, ranged_back 0 1920 n.first_id (omega arith) s.first_id_high) refl
+    rw (
+      ranged_back 1 1000 n.ticks_per_us s.ticks_low s.ticks_high,
+      ranged_back 1 10000 n.nominal_ticks s.nominal_low s.nominal_high,
+      ranged_back 1 n.nominal_ticks n.data_ticks s.data_low s.data_high,
+      ranged_back 0 1920 n.first_id (omega arith) s.first_id_high,
+    ) refl
 
 -- the written text is read
 pub network_back : (n : Network) → NetworkStands n → network_of (network_text n) ≡ Ok n

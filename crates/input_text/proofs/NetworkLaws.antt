@@ -1,5 +1,5 @@
 -- The laws of the text of a network: what is read stands.
-use Rattle.std.proofs.Common.{◌≡◌, ◌≤◌, ◌==◌, ◌&&◌, ◌∷◌, ℕ, Bool, true, false, cond, List, [], take, drop, inl, inr, Option, Some, None, Result, Ok, Err, refl, sym, ap, subst, ◌∙◌, arith, codes, nat_le, option_and_then}
+use Rattle.std.proofs.Common.{◌≡◌, ◌==◌, ◌&&◌, ◌∷◌, ℕ, Bool, true, false, cond, List, [], take, drop, inl, inr, Option, Some, None, Result, Ok, Err, refl, sym, subst, codes, nat_le, option_and_then}
 use Rattle.std.specs.Prelude.{IfOk, IfSome}
 use Rattle.std.proofs.lemmas.Bool.{and_parts, cases_Bool, eqb-true, leb-true}
 use Rattle.std.specs.Prelude.{IsUtf8}
@@ -7,7 +7,7 @@ use Rattle.std.specs.Str.{is_utf8}
 use Rattle.std.proofs.lemmas.Str.{IsUtf8-from_is_utf8, is_utf8-from_IsUtf8}
 use Rattle.csv.specs.Reading.{strip_bom}
 use Rattle.serde_json.specs.Read.{read}
-use Rattle.serde_json.specs.Data.{Data, Members}
+use Rattle.serde_json.specs.Data.{Data}
 use Rattle.serde_json.specs.Find.{as_number, as_object, as_u64, get}
 use Rattle.pack_model.specs.Network.{NetworkStands}
 use Rattle.pack_model.specs.declared.network.Network.{Network}
@@ -81,9 +81,12 @@ members_stand (Ok o) (Ok v) (Ok t) (Ok n) bit first count ht hn hd hf = by (bit 
     by (Ok d) (Err e) c hd hf = tt
     by (Ok d) (Ok f) (Err e) hd hf = tt
     by (Ok d) (Ok f) (Ok c) hd hf = record {
-      ticks_low = ht.above; ticks_high = ht.below;
-      nominal_low = hn.above; nominal_high = hn.below;
-      data_low = hd.above; data_high = hd.below;
+      ticks_low = ht.above;
+      ticks_high = ht.below;
+      nominal_low = hn.above;
+      nominal_high = hn.below;
+      data_low = hd.above;
+      data_high = hd.below;
       first_id_high = hf.below;
     }
 

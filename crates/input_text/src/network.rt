@@ -55,13 +55,7 @@ fn read_value(alloc: Global, text: &[u8]) -> Result<Value, NetworkFault>
 }
 
 // A member with a whole number from `low` to `high`.
-fn member(
-    value: &Value,
-    number: u8,
-    name: &str,
-    low: u32,
-    high: u32,
-) -> Result<u32, NetworkFault>
+fn member(value: &Value, number: u8, name: &str, low: u32, high: u32) -> Result<u32, NetworkFault>
     ensures { Gives (λ x. x) network_refusal result (member_in low high number name.now (view value.now)) }
 {
     match value.get(name).and_then(Value::as_u64) {

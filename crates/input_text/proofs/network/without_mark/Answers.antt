@@ -1,4 +1,4 @@
-use Rattle.std.proofs.Common.{◌∙◌, refl, sym, drop, length, arith, length-drop, ◌≤◌, ◌-◌}
+use Rattle.std.proofs.Common.{◌∙◌, refl, sym, drop, length, arith, length-drop, ◌-◌}
 use Rattle.std.proofs.lemmas.Bool.{false≢true}
 use Rattle.std.proofs.lemmas.Bool.Decides.{Decides-eqb}
 use Rattle.std.proofs.lemmas.List.{take_all}
