@@ -13,3 +13,6 @@ pub use columns::{ColumnFault, count_at, field_at, has_fields, name_at, number_a
 pub use decimal::decimal_in;
 pub use rows::Rows;
 pub use writing::RowsWriter;
+
+#[cfg(test)]
+mod tests;
