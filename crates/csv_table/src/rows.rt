@@ -1,5 +1,5 @@
 //! The records of a text.
-ghost use Rattle.std.specs.Prelude.{◌≡◌, IfOk, OnErr, [], Some, true, false, not};
+ghost use Rattle.std.specs.Prelude.{◌≡◌, ◌≤◌, ◌+◌, length, IfOk, OnErr, [], Some, true, false, not};
 ghost use Rattle.csv.specs.Records.{fields_of};
 ghost use Rattle.csv_table.specs.Rows.{rows_of, Takes};
 ghost use Rattle.csv_table.specs.Inside.{rows_left, IsOpen};
@@ -46,7 +46,8 @@ fn take(reader: &mut Reader<&[u8]>, row: &mut ByteRecord) -> Result<bool, Memory
 impl<'a> Rows<'a> {
     /// The records of a text of CSV, a byte order mark at its front passed over.
     pub fn of_text(alloc: Global, text: &'a [u8]) -> Rows<'a>
-        ensures { result ≡ rows_of text.now }
+        ensures rows { result ≡ rows_of text.now }
+        ensures few { length result ≤ length text.now + 1 }
     {
         Rows {
             reader: ReaderBuilder::new()

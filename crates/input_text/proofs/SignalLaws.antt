@@ -8,14 +8,14 @@ use Rattle.std.proofs.lemmas.List.Elements.{All-from_recursion, All-weaker, recu
 use Rattle.pack_model.specs.Name.{IsName}
 use Rattle.pack_model.specs.Signal.{SignalStands}
 use Rattle.pack_model.specs.declared.signal.Signal.{Signal}
-use Rattle.csv_table.specs.Columns.{◌>>=◌, count_in, is_row, name_in, number_in, optional_in}
+use Rattle.csv_table.specs.Columns.{◌>>=◌, in_row, count_in, is_row, name_in, number_in, optional_in}
 use Rattle.csv_table.specs.Rows.{rows_of}
 use Rattle.csv_table.proofs.Ranges.{Within, name_back, name_named, number_back, number_within, optional_back, optional_within}
 use Rattle.csv_table.proofs.RoundTrip.{map_read_back, rows_of-rows_text}
 use Rattle.csv_table.specs.Gives.{Gives}
 use Rattle.csv_table.specs.Writing.{optional_text}
 use Rattle.input_text.specs.declared.signals.SignalsFault.{SignalsFault}
-use Rattle.input_text.specs.SignalsText.{signals_refusal, SignalsRefusal, bad_header, too_many, ReadsBack, in_row, signal_fields, signal_of, signals_from, signals_header, signals_in, signals_of, signals_text}
+use Rattle.input_text.specs.SignalsText.{signals_refusal, SignalsRefusal, bad_header, too_many, bad_row, ReadsBack, signal_fields, signal_of, signals_from, signals_header, signals_in, signals_of, signals_text}
 
 -- a signal that stands, with its names
 pub record IsSignal (s : Signal) : Type 0 where
@@ -77,7 +77,7 @@ record AreSignals (n : ℕ) (signals : List Signal) : Type 0 where
   few : n + length signals ≤ 2050
 
 one_more : (n : ℕ) (signal : Result Signal ℕ) (others : Result (List Signal) SignalsRefusal) → IfOk signal IsSignal → IfOk others (AreSignals (n + 1))
-    → IfOk (in_row n signal >>= λ s. others >>= λ ss. Ok (s ∷ ss)) (AreSignals n)
+    → IfOk (in_row bad_row n signal >>= λ s. others >>= λ ss. Ok (s ∷ ss)) (AreSignals n)
 one_more n (Err k) others h more = tt
 one_more n (Ok s) (Err e) h more = tt
 one_more n (Ok s) (Ok ss) h more = record { each = (h, more.each); few = omega (arith, more.few) }

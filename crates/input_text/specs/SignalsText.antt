@@ -1,7 +1,7 @@
 -- The text of signals (SIGNALS), the project's own format: CSV as RFC 4180 has it, read by `csv`'s rules.
 use Rattle.std.specs.Prelude.{◌≡◌, ℕ, ◌+◌, ◌==◌, ◌∷◌, [], List, codes, decimal, map, Option, Some, None, unwrap_or, Result, Ok, Err, if◌then◌else◌}
 use Rattle.pack_model.specs.declared.signal.Signal.{Signal}
-use Rattle.csv_table.specs.Columns.{◌>>=◌, is_row, count_in, name_in, number_in, optional_in}
+use Rattle.csv_table.specs.Columns.{◌>>=◌, in_row, is_row, count_in, name_in, number_in, optional_in}
 use Rattle.csv_table.specs.Rows.{rows_of}
 use Rattle.csv_table.specs.Writing.{optional_text, rows_text}
 use Rattle.input_text.specs.declared.signals.SignalsFault.{SignalsFault}
@@ -39,16 +39,11 @@ signal_of fields = do
     jitter_us = unwrap_or jitter 0;
   })
 
--- a column that breaks its rule, in row n
-abbrev pub in_row : {A : Type 0} → ℕ → Result A ℕ → Result A SignalsRefusal
-in_row n (Ok x) = Ok x
-in_row n (Err k) = Err (bad_row n k)
-
 -- the signals of the records from row n on; a record in row 2050 is one too many, whatever its columns
 abbrev pub signals_from : ℕ → List (List (List ℕ)) → Result (List Signal) SignalsRefusal
 signals_from n [] = Ok []
 signals_from n (row ∷ rows) = if n == 2050 then Err too_many else (do
-  signal ← in_row n (signal_of row)
+  signal ← in_row bad_row n (signal_of row)
   signals ← signals_from (n + 1) rows
   Ok (signal ∷ signals))
 
