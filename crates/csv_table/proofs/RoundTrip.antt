@@ -61,3 +61,7 @@ text_more f xs i x before after total lt at step whole =
     let split : before ++ rows_text (map f (drop i xs)) ≡ before ++ (row_text default_writer (f x) ++ rows_text (map f (drop (i + 1) xs))) =
     rw (add-one, drop-cons xs i x, ← at) refl in
     ap (λ (t : List ℕ). t ++ rows_text (map f (drop (i + 1) xs))) step ∙ append_assoc before (row_text default_writer (f x)) _ ∙ sym split ∙ whole
+
+-- a header and rows, as they were written one after the other
+pub written : (text after header start head rows : List ℕ) → text ≡ after → after ≡ header ++ rows → header ≡ start ++ head → start ≡ [] → text ≡ head ++ rows
+written text after header start head rows a b c d = a ∙ b ∙ ap (λ (x : List ℕ). x ++ rows) (c ∙ ap (λ (x : List ℕ). x ++ head) d)

@@ -1,5 +1,5 @@
 -- The columns of a record, in order, each by its rule; a column that breaks its rule answers its number.
-use Rattle.std.specs.Prelude.{ℕ, ◌-◌, ◌+◌, ◌==◌, ◌∷◌, List, [], length, slice_index_or, Bool, Option, Some, None, Result, Ok, Err, if◌then◌else◌}
+use Rattle.std.specs.Prelude.{ℕ, ◌-◌, ◌+◌, ◌==◌, ◌∷◌, List, [], length, slice_index_or, Bool, false, Option, Some, None, Result, Ok, Err, if◌then◌else◌}
 use Rattle.std.specs.Str.{bytes_eq}
 use Rattle.std.specs.Cmp.Lexicographic.{pointwise}
 use Rattle.pack_model.specs.Name.{is_name}
@@ -19,6 +19,11 @@ or_error e (Some x) = Ok x
 -- the record has these fields
 abbrev pub is_row : List (List ℕ) → List (List ℕ) → Bool
 is_row = pointwise bytes_eq
+
+-- the first of the records has these fields
+abbrev pub begins_with : List (List ℕ) → List (List (List ℕ)) → Bool
+begins_with names [] = false
+begins_with names (row ∷ rows) = is_row row names
 
 -- the field in a column, counted from 1
 abbrev pub field_in : ℕ → List (List ℕ) → List ℕ

@@ -5,5 +5,7 @@
 #![tactic(auto)]
 
 mod matrix;
+mod text;
 
 pub use matrix::{Header, Matrix, MatrixRow};
+pub use text::{MatrixFault, read_matrix, write_matrix};
