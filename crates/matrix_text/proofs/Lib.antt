@@ -9,3 +9,4 @@ pub mod Numbering
 pub mod OnePlaceLaws
 pub mod PlacedLaws
 pub mod RowsFound
+pub mod TextLaws

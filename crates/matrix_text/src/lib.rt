@@ -10,6 +10,8 @@ mod labels;
 mod matrix;
 mod overlap;
 mod signal_rows;
+mod text;
 
 pub use labels::labels_of;
 pub use matrix::{Header, Matrix, MatrixRow};
+pub use text::{MatrixFault, read_matrix, write_matrix};
