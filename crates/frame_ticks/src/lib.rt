@@ -5,6 +5,11 @@
 //! bytes lasts longer.
 #![tactic(auto)]
 
+mod bits;
+mod line;
+mod real;
 mod worst;
 
+pub use bits::frame_bits;
+pub use real::{real_ticks, stuffed_ticks};
 pub use worst::{MAX_TICKS, worst_ticks};
