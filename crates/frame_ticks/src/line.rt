@@ -20,7 +20,7 @@ impl Line {
     ghost use Rattle.std.specs.Prelude.{◌+◌, ◌*◌, ◌≤◌, ◌^◌, [], ◌∷◌, length};
     ghost use Rattle.frame_ticks.specs.Bits.{number_bits, payload_bits};
     ghost use Rattle.frame_ticks.specs.Line.{Sends, run_at};
-    ghost use Rattle.frame_ticks.specs.Stuffing.{no_run};
+    ghost use Rattle.frame_ticks.specs.Stuffing.{no_run, run_with};
 
     /// The line before a frame.
     pub fn idle() -> Line
@@ -34,12 +34,20 @@ impl Line {
         }
     }
 
+    /// How many equal bits would end with this one.
+    fn run_with(&self, bit: bool) -> u8
+        ensures { result ≡ run_with self.now.run self.now.value bit }
+    {
+        if bit == self.value { self.run + 1 } else { 1 }
+    }
+
     /// Sends one bit, and the one inserted after it where it is the fifth of a run.
     pub fn send(&mut self, bit: bool)
         requires { self.old.sent + 2 < 2 ^ 64 }
-        ensures { Sends self.old self.new (bit ∷ []) }
+        ensures sends { Sends self.old self.new (bit ∷ []) }
+        ensures few { self.new.sent ≤ self.old.sent + 2 }
     {
-        let run = if bit == self.value { self.run + 1 } else { 1 };
+        let run = self.run_with(bit);
         self.sent += 1;
         if run == LONGEST_RUN {
             self.sent += 1;
@@ -54,7 +62,8 @@ impl Line {
     /// Sends each bit.
     pub fn send_all(&mut self, bits: &[bool])
         requires { self.old.sent + 2 * length bits.now < 2 ^ 64 }
-        ensures { Sends self.old self.new bits.now }
+        ensures sends { Sends self.old self.new bits.now }
+        ensures few { self.new.sent ≤ self.old.sent + 2 * length bits.now }
     {
         for bit in bits {
             self.send(*bit);
@@ -65,7 +74,8 @@ impl Line {
     pub fn send_number(&mut self, number: u32, count: u32)
         requires few { count ≤ 32 }
         requires room { self.old.sent + 2 * count < 2 ^ 64 }
-        ensures { Sends self.old self.new (number_bits count number) }
+        ensures sends { Sends self.old self.new (number_bits count number) }
+        ensures few { self.new.sent ≤ self.old.sent + 2 * count }
     {
         for place in (0..count).rev() {
             self.send(is_bit_set(number, place));
@@ -75,7 +85,8 @@ impl Line {
     /// Sends the bits of each byte.
     pub fn send_payload(&mut self, payload: &[u8])
         requires { self.old.sent + 16 * length payload.now < 2 ^ 64 }
-        ensures { Sends self.old self.new (payload_bits payload.now) }
+        ensures sends { Sends self.old self.new (payload_bits payload.now) }
+        ensures few { self.new.sent ≤ self.old.sent + 16 * length payload.now }
     {
         for byte in payload {
             self.send_number(u32::from(*byte), 8);
