@@ -1,8 +1,10 @@
 -- Laws of the bits of numbers and frames.
-use Rattle.std.proofs.Common.{◌≡◌, ℕ, zero, suc, ◌+◌, ◌-◌, ◌*◌, ◌<◌, ◌≤◌, ◌==◌, Bool, List, [], ◌∷◌, ◌++◌, length, take, get_or, refl, sym, ap, ◌∙◌, arith, length-append, add-one}
+use Rattle.std.proofs.Common.{◌≡◌, ℕ, zero, suc, ◌+◌, ◌-◌, ◌*◌, ◌<◌, ◌≤◌, ◌==◌, Bool, false, List, [], ◌∷◌, ◌++◌, length, take, get_or, refl, sym, ap, ◌∙◌, arith, length-append, add-one}
 use Rattle.std.specs.Int.{bit_at}
-use Rattle.std.proofs.lemmas.List.{take_more, flat_map_more}
-use Rattle.frame_ticks.specs.Bits.{number_bits, payload_bits}
+use Rattle.std.proofs.lemmas.List.{take_at, take_more, flat_map_more}
+use Rattle.frame_ticks.specs.Bits.{number_bits, arbitration_bits, format_bits, length_bits, payload_bits, nominal_bits_of, data_bits_of, bits_of}
+use Rattle.frame_ticks.specs.Ticks.{to_brs, size_of_bits}
+use Rattle.fd_length.specs.Size.{code_of_size}
 
 -- no bits of a number
 pub number_bits-zero : (value : ℕ) → number_bits 0 value ≡ []
@@ -36,3 +38,42 @@ pub length-payload_bits : (payload : List ℕ) → length (payload_bits payload)
 length-payload_bits [] = refl
 length-payload_bits (byte ∷ payload) =
     length-append (number_bits 8 byte) (payload_bits payload) ∙ (let first = length-number_bits 8 byte in let rest = length-payload_bits payload in omega arith)
+
+-- 14 bits up to IDE
+pub length-arbitration_bits : (id : ℕ) → length (arbitration_bits id) ≡ 14
+length-arbitration_bits id =
+    let all = length-append (number_bits 11 id) (false ∷ false ∷ []) in
+    let eleven = length-number_bits 11 id in
+    omega arith
+
+-- 17 up to BRS
+pub length-nominal_bits_of : (id : ℕ) → length (nominal_bits_of id) ≡ 17
+length-nominal_bits_of id =
+    let all = length-append (arbitration_bits id) format_bits in
+    let first = length-arbitration_bits id in
+    omega arith
+
+-- five more bits, and eight for each byte
+pub length-data_bits_of : (esi : Bool) (payload : List ℕ) → length (data_bits_of esi payload) ≡ 5 + 8 * length payload
+length-data_bits_of esi payload =
+    let all = length-append (length_bits (length payload)) (payload_bits payload) in
+    let four = length-number_bits 4 (code_of_size (length payload)) in
+    let bytes = length-payload_bits payload in
+    omega arith
+
+-- 22 bits and eight for each byte
+pub length-bits_of : (id : ℕ) (esi : Bool) (payload : List ℕ) → length (bits_of id esi payload) ≡ 22 + 8 * length payload
+length-bits_of id esi payload =
+    let all = length-append (nominal_bits_of id) (data_bits_of esi payload) in
+    let first = length-nominal_bits_of id in
+    let second = length-data_bits_of esi payload in
+    omega arith
+
+-- the number of bits tells the number of bytes
+pub size_of_bits-bits_of : (id : ℕ) (esi : Bool) (payload : List ℕ) → size_of_bits (bits_of id esi payload) ≡ length payload
+size_of_bits-bits_of id esi payload =
+    let all = length-bits_of id esi payload in omega arith
+
+-- the bits up to BRS are the first ones
+pub to_brs-bits_of : (id : ℕ) (esi : Bool) (payload : List ℕ) → to_brs (bits_of id esi payload) ≡ nominal_bits_of id
+to_brs-bits_of id esi payload = take_at (nominal_bits_of id) (data_bits_of esi payload) 17 (length-nominal_bits_of id)

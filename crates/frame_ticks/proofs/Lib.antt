@@ -1,3 +1,5 @@
 pub mod BitLaws
+pub mod BoundLaws
+pub mod RelationLaws
 pub mod Sending
 pub mod StuffingLaws
