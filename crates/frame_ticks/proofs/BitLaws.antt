@@ -1,5 +1,5 @@
 -- Laws of the bits of numbers and frames.
-use Rattle.std.proofs.Common.{◌≡◌, ℕ, zero, suc, ◌+◌, ◌-◌, ◌*◌, ◌<◌, ◌≤◌, ◌==◌, Bool, false, List, [], ◌∷◌, ◌++◌, length, take, get_or, refl, sym, ap, ◌∙◌, arith, length-append, add-one}
+use Rattle.std.proofs.Common.{◌≡◌, ℕ, zero, suc, ◌+◌, ◌-◌, ◌*◌, ◌<◌, ◌≤◌, ◌==◌, Bool, true, false, List, [], ◌∷◌, ◌++◌, length, take, get_or, refl, sym, ap, ◌∙◌, arith, append_assoc, length-append, add-one}
 use Rattle.std.specs.Int.{bit_at}
 use Rattle.std.proofs.lemmas.List.{take_at, take_more, flat_map_more}
 use Rattle.frame_ticks.specs.Bits.{number_bits, arbitration_bits, format_bits, length_bits, payload_bits, nominal_bits_of, data_bits_of, bits_of}
@@ -77,3 +77,7 @@ size_of_bits-bits_of id esi payload =
 -- the bits up to BRS are the first ones
 pub to_brs-bits_of : (id : ℕ) (esi : Bool) (payload : List ℕ) → to_brs (bits_of id esi payload) ≡ nominal_bits_of id
 to_brs-bits_of id esi payload = take_at (nominal_bits_of id) (data_bits_of esi payload) 17 (length-nominal_bits_of id)
+
+-- the bits up to BRS as they are written: SOF, the identifier, and five fixed ones
+pub nominal_bits_of-written : (id : ℕ) → (false ∷ []) ++ number_bits 11 id ++ (false ∷ false ∷ true ∷ false ∷ true ∷ []) ≡ nominal_bits_of id
+nominal_bits_of-written id = ap (λ bits. false ∷ bits) (sym (append_assoc (number_bits 11 id) (false ∷ false ∷ []) format_bits))

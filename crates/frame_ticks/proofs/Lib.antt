@@ -1,5 +1,6 @@
 pub mod BitLaws
 pub mod BoundLaws
+pub mod FrameLaws
 pub mod RelationLaws
 pub mod Sending
 pub mod StuffingLaws
