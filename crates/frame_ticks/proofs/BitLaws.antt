@@ -1,9 +1,9 @@
 -- Laws of the bits of numbers and frames.
-use Rattle.std.proofs.Common.{◌≡◌, ℕ, zero, suc, ◌+◌, ◌-◌, ◌*◌, ◌<◌, ◌≤◌, ◌==◌, Bool, true, false, List, [], ◌∷◌, ◌++◌, length, take, get_or, refl, sym, ap, ◌∙◌, arith, append_assoc, length-append, add-one}
+use Rattle.std.proofs.Common.{◌≡◌, ℕ, zero, suc, ◌+◌, ◌-◌, ◌*◌, ◌<◌, ◌==◌, Bool, true, false, List, [], ◌∷◌, ◌++◌, length, take, get_or, refl, sym, ap, ◌∙◌, arith, append_assoc, length-append}
 use Rattle.std.specs.Int.{bit_at}
-use Rattle.std.proofs.lemmas.List.{take_at, take_more, flat_map_more}
+use Rattle.std.proofs.lemmas.List.{take_at, drop_at, take_more, flat_map_more}
 use Rattle.frame_ticks.specs.Bits.{number_bits, arbitration_bits, format_bits, length_bits, payload_bits, nominal_bits_of, data_bits_of, bits_of}
-use Rattle.frame_ticks.specs.Ticks.{to_brs, size_of_bits}
+use Rattle.frame_ticks.specs.Ticks.{to_brs, after_brs, size_of_bits}
 use Rattle.fd_length.specs.Size.{code_of_size}
 
 -- no bits of a number
@@ -77,6 +77,10 @@ size_of_bits-bits_of id esi payload =
 -- the bits up to BRS are the first ones
 pub to_brs-bits_of : (id : ℕ) (esi : Bool) (payload : List ℕ) → to_brs (bits_of id esi payload) ≡ nominal_bits_of id
 to_brs-bits_of id esi payload = take_at (nominal_bits_of id) (data_bits_of esi payload) 17 (length-nominal_bits_of id)
+
+-- and the others are those after it
+pub after_brs-bits_of : (id : ℕ) (esi : Bool) (payload : List ℕ) → after_brs (bits_of id esi payload) ≡ data_bits_of esi payload
+after_brs-bits_of id esi payload = drop_at (nominal_bits_of id) (data_bits_of esi payload) 17 (length-nominal_bits_of id)
 
 -- the bits up to BRS as they are written: SOF, the identifier, and five fixed ones
 pub nominal_bits_of-written : (id : ℕ) → (false ∷ []) ++ number_bits 11 id ++ (false ∷ false ∷ true ∷ false ∷ true ∷ []) ≡ nominal_bits_of id

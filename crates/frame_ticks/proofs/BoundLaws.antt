@@ -1,5 +1,5 @@
 -- How many bits stuffing inserts at most.
-use Rattle.std.proofs.Common.{◌≡◌, ℕ, suc, ◌+◌, ◌-◌, ◌*◌, ◌<◌, ◌≤◌, ◌≢◌, ◌⊎◌, Bool, true, false, not, List, [], ◌∷◌, ◌++◌, length, refl, sym, ap, ◌∙◌, subst, inl, inr, arith, append_assoc, length-append}
+use Rattle.std.proofs.Common.{◌≡◌, ℕ, ◌+◌, ◌*◌, ◌<◌, ◌≤◌, ◌≢◌, ◌⊎◌, Bool, true, false, List, [], ◌∷◌, ◌++◌, length, refl, sym, ap, ◌∙◌, inl, inr, arith, append_assoc, length-append}
 use Rattle.std.proofs.lemmas.Bool.Decides.{nat_tests}
 use Rattle.frame_ticks.specs.Bits.{arbitration_bits, format_bits, nominal_bits_of, data_bits_of, bits_of, number_bits}
 use Rattle.frame_ticks.specs.Ticks.{ticks_sent, ticks_of}
@@ -7,7 +7,7 @@ use Rattle.frame_ticks.specs.Worst.{crc_bits_of, worst_ticks_of}
 use Rattle.pack_model.specs.declared.network.Network.{Network}
 use Rattle.std.proofs.Math.Nat.{mul-le-mul_right}
 use Rattle.frame_ticks.specs.Stuffing.{Run, no_run, run_with, is_fifth, sent_of, run_after, run_of, stuffed_of}
-use Rattle.frame_ticks.proofs.BitLaws.{length-arbitration_bits, length-data_bits_of, to_brs-bits_of, size_of_bits-bits_of}
+use Rattle.frame_ticks.proofs.BitLaws.{length-arbitration_bits, length-data_bits_of, to_brs-bits_of, after_brs-bits_of, size_of_bits-bits_of}
 use Rattle.frame_ticks.proofs.StuffingLaws.{stuffed_of-nil, stuffed_of-cons, stuffed_of-append, run_of-append}
 
 -- a run carried on is one bit longer at most, and never empty
@@ -39,7 +39,7 @@ Pays-bits run (bit ∷ rest) short =
     let first = Pays-bit run bit short in
     let others = Pays-bits (run_after run bit) rest first.short in
     let sent : length (stuffed_of run (bit ∷ rest)) ≡ length (sent_of run bit) + length (stuffed_of (run_after run bit) rest) =
-        ap length (stuffed_of-cons run bit rest) ∙ length-append (sent_of run bit) (stuffed_of (run_after run bit) rest) in
+    ap length (stuffed_of-cons run bit rest) ∙ length-append (sent_of run bit) (stuffed_of (run_after run bit) rest) in
     record {
       paid = omega (arith, sent, first.paid, others.paid);
       short = others.short;
@@ -71,9 +71,10 @@ nominal-bounds id =
     let dominant = run_after-dominant (run_of no_run front) in
     let format = stuffed_of-format (run_of no_run (arbitration_bits id)).long (run_of no_run (arbitration_bits id)).value (rw at_ide dominant) in
     let sent = ap length (stuffed_of-append no_run (arbitration_bits id) format_bits) ∙ length-append (stuffed_of no_run (arbitration_bits id)) (stuffed_of (run_of no_run (arbitration_bits id)) format_bits) in
-    let three : length (stuffed_of (run_of no_run (arbitration_bits id)) format_bits) ≡ 3 = format.0 in
-    ( omega (arith, sent, pays.paid, pays.some (omega arith))
-    , ap (λ run. run.long) (run_of-append no_run (arbitration_bits id) format_bits) ∙ format.1 )
+    let three : length (stuffed_of (run_of no_run (arbitration_bits id)) format_bits) ≡ 3 = format.0 in (
+      omega (arith, sent, pays.paid, pays.some (omega arith)),
+      ap (λ run. run.long) (run_of-append no_run (arbitration_bits id) format_bits) ∙ format.1,
+    )
 
 -- after BRS at most two bits for each byte and one more are inserted
 pub data-bounds : (run : Run) (esi : Bool) (payload : List ℕ) → run.long ≡ 1 → length (stuffed_of run (data_bits_of esi payload)) ≤ 6 + 10 * length payload
@@ -82,24 +83,17 @@ data-bounds run esi payload begun =
     let pays = Pays-bits run (data_bits_of esi payload) (omega arith) in
     omega (arith, pays.paid, pays.some (omega arith))
 
--- the bits of a frame as they are sent: those up to BRS, and those after it
-pub length-stuffed_of-bits_of : (id : ℕ) (esi : Bool) (payload : List ℕ) → length (stuffed_of no_run (bits_of id esi payload)) ≡ length (stuffed_of no_run (nominal_bits_of id)) + length (stuffed_of (run_of no_run (nominal_bits_of id)) (data_bits_of esi payload))
-length-stuffed_of-bits_of id esi payload =
-    ap length (stuffed_of-append no_run (nominal_bits_of id) (data_bits_of esi payload))
-    ∙ length-append (stuffed_of no_run (nominal_bits_of id)) (stuffed_of (run_of no_run (nominal_bits_of id)) (data_bits_of esi payload))
-
 -- fewer bits take fewer ticks
-pub ticks_sent-at_most : (network : Network) (size nominal sent : ℕ) → nominal ≤ 20 → sent - nominal ≤ 6 + 10 * size → ticks_sent network size nominal sent ≤ worst_ticks_of network size
-ticks_sent-at_most network size nominal sent few_nominal few_data =
+pub ticks_sent-at_most : (network : Network) (size nominal others : ℕ) → nominal ≤ 20 → others ≤ 6 + 10 * size → ticks_sent network size nominal others ≤ worst_ticks_of network size
+ticks_sent-at_most network size nominal others few_nominal few_others =
     let first = mul-le-mul_right {m = nominal + 13} {n = 33} network.nominal_ticks (omega arith) in
-    let second = mul-le-mul_right {m = sent - nominal + crc_bits_of size} {n = 6 + 10 * size + crc_bits_of size} network.data_ticks (omega arith) in
+    let second = mul-le-mul_right {m = others + crc_bits_of size} {n = 6 + 10 * size + crc_bits_of size} network.data_ticks (omega arith) in
     omega (arith, first, second)
 
 -- no frame lasts longer than the greatest length for its number of data bytes
 pub ticks_of-at_most : (network : Network) (id : ℕ) (esi : Bool) (payload : List ℕ) → ticks_of network (bits_of id esi payload) ≤ worst_ticks_of network (length payload)
 ticks_of-at_most network id esi payload =
     let nominal = nominal-bounds id in
-    let data_part = data-bounds (run_of no_run (nominal_bits_of id)) esi payload nominal.1 in
-    rw (to_brs-bits_of id esi payload, size_of_bits-bits_of id esi payload)
-      (ticks_sent-at_most network (length payload) (length (stuffed_of no_run (nominal_bits_of id))) (length (stuffed_of no_run (bits_of id esi payload)))
-        nominal.0 (omega (arith, length-stuffed_of-bits_of id esi payload)))
+    rw (to_brs-bits_of id esi payload, after_brs-bits_of id esi payload, size_of_bits-bits_of id esi payload)
+    (ticks_sent-at_most network (length payload) (length (stuffed_of no_run (nominal_bits_of id))) _ nominal.0
+    (data-bounds (run_of no_run (nominal_bits_of id)) esi payload nominal.1))

@@ -4,3 +4,4 @@ pub mod FrameLaws
 pub mod RelationLaws
 pub mod Sending
 pub mod StuffingLaws
+pub mod WorstLaws

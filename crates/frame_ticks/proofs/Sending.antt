@@ -1,9 +1,8 @@
 -- Laws of what a sender puts on the line.
-use Rattle.std.proofs.Common.{◌≡◌, ℕ, suc, ◌+◌, ◌*◌, ◌<◌, ◌≤◌, Bool, true, false, not, List, [], ◌∷◌, ◌++◌, length, refl, sym, ap, ◌∙◌, arith, length-append, add_assoc}
-use Rattle.std.proofs.lemmas.Bool.Decides.{nat_tests}
+use Rattle.std.proofs.Common.{◌≡◌, ◌+◌, Bool, true, false, not, List, [], ◌∷◌, ◌++◌, length, refl, sym, ap, ◌∙◌, arith, length-append, add_assoc}
 use Rattle.frame_ticks.specs.declared.line.Line.{Line}
 use Rattle.frame_ticks.specs.Line.{Sends, run_at}
-use Rattle.frame_ticks.specs.Stuffing.{Run, no_run, run_with, is_fifth, sent_of, run_after, run_of, stuffed_of}
+use Rattle.frame_ticks.specs.Stuffing.{run_with, is_fifth, run_of, stuffed_of}
 use Rattle.frame_ticks.proofs.StuffingLaws.{stuffed_of-nil, stuffed_of-one, stuffed_of-append, run_of-append}
 
 -- no bit
@@ -29,7 +28,7 @@ pub Sends-append : (old middle new : Line) (front rest : List Bool) → Sends ol
 Sends-append old middle new front rest first second = record {
   run = second.run ∙ ap (λ run. run_of run rest) first.run ∙ sym (run_of-append (run_at old) front rest);
   sent =
-    second.sent ∙ ap (λ run. middle.sent + length (stuffed_of run rest)) first.run ∙ ap (λ sent. sent + length (stuffed_of (run_of (run_at old) front) rest)) first.sent
-    ∙ add_assoc old.sent (length (stuffed_of (run_at old) front)) (length (stuffed_of (run_of (run_at old) front) rest))
-    ∙ ap (λ more. old.sent + more) (sym (ap length (stuffed_of-append (run_at old) front rest) ∙ length-append (stuffed_of (run_at old) front) (stuffed_of (run_of (run_at old) front) rest)));
+      second.sent ∙ ap (λ run. middle.sent + length (stuffed_of run rest)) first.run ∙ ap (λ sent. sent + length (stuffed_of (run_of (run_at old) front) rest)) first.sent
+      ∙ add_assoc old.sent (length (stuffed_of (run_at old) front)) (length (stuffed_of (run_of (run_at old) front) rest))
+      ∙ ap (λ more. old.sent + more) (sym (ap length (stuffed_of-append (run_at old) front rest) ∙ length-append (stuffed_of (run_at old) front) (stuffed_of (run_of (run_at old) front) rest)));
 }

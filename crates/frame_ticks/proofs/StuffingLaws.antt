@@ -1,9 +1,8 @@
 -- Laws of stuffing, bit by bit.
-use Rattle.std.proofs.Common.{◌≡◌, ℕ, suc, ◌+◌, ◌*◌, ◌<◌, ◌≤◌, ◌⊎◌, Bool, true, false, not, cond, List, [], ◌∷◌, ◌++◌, length, refl, sym, ap, ◌∙◌, inl, inr, arith, append_assoc, length-append}
-use Rattle.std.proofs.lemmas.Bool.Decides.{nat_tests}
+use Rattle.std.proofs.Common.{◌≡◌, Bool, List, [], ◌∷◌, ◌++◌, refl, sym, append_assoc}
 use Rattle.std.proofs.lemmas.List.{append-nil}
 use Rattle.std.proofs.lemmas.List.Sums.{fold-append}
-use Rattle.frame_ticks.specs.Stuffing.{Run, no_run, run_with, is_fifth, sent_of, run_after, run_of, stuffed_of}
+use Rattle.frame_ticks.specs.Stuffing.{Run, sent_of, run_after, run_of, stuffed_of}
 
 -- nothing is sent for no bits
 pub stuffed_of-nil : (run : Run) → stuffed_of run [] ≡ []
@@ -24,7 +23,7 @@ pub stuffed_of-append : (run : Run) (front rest : List Bool) → stuffed_of run 
 stuffed_of-append run [] rest = rw stuffed_of-nil refl
 stuffed_of-append run (bit ∷ front) rest =
     rw (stuffed_of-cons run bit (front ++ rest), stuffed_of-cons run bit front, stuffed_of-append (run_after run bit) front rest)
-      (sym (append_assoc (sent_of run bit) (stuffed_of (run_after run bit) front) (stuffed_of (run_of (run_after run bit) front) rest)))
+    (sym (append_assoc (sent_of run bit) (stuffed_of (run_after run bit) front) (stuffed_of (run_of (run_after run bit) front) rest)))
 
 -- the run that two parts leave
 pub run_of-append : (run : Run) (front rest : List Bool) → run_of run (front ++ rest) ≡ run_of (run_of run front) rest

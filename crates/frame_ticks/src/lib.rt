@@ -6,10 +6,13 @@
 #![tactic(auto)]
 
 mod bits;
+mod frame;
 mod line;
-mod real;
 mod worst;
 
 pub use bits::frame_bits;
-pub use real::{real_ticks, stuffed_ticks};
+pub use frame::{real_ticks, stuffed_ticks};
 pub use worst::{MAX_TICKS, worst_ticks};
+
+#[cfg(test)]
+mod tests;

@@ -34,7 +34,12 @@ pub fn stuffed_ticks(network: &Network, bits: &[bool]) -> u64
     line.send_all(to_brs);
     let nominal = line.sent;
     line.send_all(after_brs);
-    ticks(network, (bits.len() - BITS_TO_DATA) / 8, nominal, line.sent)
+    ticks(
+        network,
+        (bits.len() - BITS_TO_DATA) / 8,
+        nominal,
+        line.sent - nominal,
+    )
 }
 
 /// The length, in ticks, of the whole frame with this identifier, error state indicator and payload,
@@ -54,17 +59,17 @@ pub fn real_ticks(network: &Network, id: u32, esi: bool, payload: &[u8]) -> u64
     line.send(esi);
     line.send_number(u32::from(dlc_of(payload.len() as u32)), DLC_BITS);
     line.send_payload(payload);
-    ticks(network, payload.len(), nominal, line.sent)
+    ticks(network, payload.len(), nominal, line.sent - nominal)
 }
 
-/// The length, in ticks, of a frame of `size` data bytes of which `sent` bits are sent from the start
-/// of frame to the last data bit, `nominal` of them up to and with BRS.
-fn ticks(network: &Network, size: usize, nominal: u64, sent: u64) -> u64
-    requires order { nominal ≤ sent }
-    requires few { sent ≤ 2000 }
-    ensures { result ≡ ticks_sent network.now size nominal sent }
+/// The length, in ticks, of a frame of `size` data bytes with so many bits sent up to and with BRS,
+/// and so many from there to the last data bit.
+fn ticks(network: &Network, size: usize, nominal: u64, others: u64) -> u64
+    requires few_nominal { nominal ≤ 1000 }
+    requires few_others { others ≤ 2000 }
+    ensures { result ≡ ticks_sent network.now size nominal others }
 {
     let nominal_bits = nominal + END_BITS;
-    let data_bits = sent - nominal + crc_bits(size);
+    let data_bits = others + crc_bits(size);
     nominal_bits * u64::from(network.nominal_ticks) + data_bits * u64::from(network.data_ticks)
 }
