@@ -2,7 +2,7 @@
 ghost use Rattle.std.specs.Prelude.{◌≡◌, ◌==◌, ◌<◌, ◌≤◌, ◌++◌, OnOk, IfOk, length};
 ghost use Rattle.std.specs.Int.{bit_at};
 ghost use Rattle.fd_length.specs.Size.{IsSize};
-ghost use Rattle.frame_ticks.specs.Bits.{bits_of, number_bits, payload_bits};
+ghost use Rattle.frame_ticks.specs.Bits.{IsFrame, bits_of, number_bits, payload_bits};
 
 use fd_length::dlc_of;
 use pack_model::Memory;
@@ -22,7 +22,8 @@ pub const DLC_BITS: u32 = 4;
 pub fn frame_bits(alloc: Global, id: u32, esi: bool, payload: &[u8]) -> Result<Vec<bool>, Memory>
     requires id_high { id < 2048 }
     requires listed { IsSize (length payload.now) }
-    ensures { IfOk result (λ bits. bits.items ≡ bits_of id esi payload.now) }
+    ensures bits { IfOk result (λ bits. bits.items ≡ bits_of id esi payload.now) }
+    ensures frame { IfOk result (λ bits. IsFrame bits.items) }
 {
     let mut bits = Vec::with_capacity(alloc, 22 + 8 * payload.len())?;
     bits.push(false)?;

@@ -29,17 +29,13 @@ pub fn stuffed_ticks(network: &Network, bits: &[bool]) -> u64
     ensures lasts { Lasts network.now bits.now result }
     ensures at_most { result ≤ worst_ticks_of network.now (size_of_bits bits.now) }
 {
+    let size = (bits.len() - BITS_TO_DATA) / 8;
     let (to_brs, after_brs) = bits.split_at(BITS_TO_BRS);
     let mut line = Line::idle();
     line.send_all(to_brs);
     let nominal = line.sent;
     line.send_all(after_brs);
-    ticks(
-        network,
-        (bits.len() - BITS_TO_DATA) / 8,
-        nominal,
-        line.sent - nominal,
-    )
+    ticks(network, size, nominal, line.sent - nominal)
 }
 
 /// The length, in ticks, of the whole frame with this identifier, error state indicator and payload,

@@ -7,8 +7,8 @@ use Rattle.frame_ticks.proofs.frame.stuffed_ticks.Goals as goal
 pub split_at-requires : goal.split_at-requires
 split_at-requires c = omega (arith, length-frame c.args.bits.now c.requires)
 
-pub overflow_sub-bits : goal.overflow_sub-bits
-overflow_sub-bits c = omega (arith, length-frame c.args.bits.now c.requires)
+pub overflow_sub-size : goal.overflow_sub-size
+overflow_sub-size c = omega (arith, length-frame c.args.bits.now c.requires)
 
 pub ticks-requires : goal.ticks-requires
 ticks-requires c =
