@@ -1,3 +1,4 @@
 pub mod Name
 pub mod Network
+pub mod Problem
 pub mod Signal

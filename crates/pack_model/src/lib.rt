@@ -5,14 +5,18 @@
 //! and the signals of a problem, or the first refusal.
 #![tactic(auto)]
 
+mod item;
 mod lists;
 mod memory;
 mod name;
 mod network;
+mod problem;
 mod signal;
 
+pub use item::Item;
 pub use lists::{Chain, Labels, Payload, Values};
 pub use memory::Memory;
 pub use name::{Name, NameFault};
 pub use network::{Network, network_stands};
+pub use problem::{Problem, ProblemFault};
 pub use signal::{Signal, Signals, signal_stands};

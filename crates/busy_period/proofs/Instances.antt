@@ -1,0 +1,38 @@
+-- Laws of the instances and ticks that one frame asks for.
+use Rattle.std.proofs.Common.{ℕ, ◌+◌, ◌*◌, ◌<◌, ◌≤◌, ◌^◌, zero, suc, arith}
+use Rattle.std.proofs.Math.Nat.{mul-le-mul, mul-le-mul_left, mul-le-mul_right, lt_of_mul-lt-mul_right, div-zero, mod-zero}
+use Rattle.std.proofs.lemmas.Grind.{div_ceil_times}
+use Rattle.std.specs.Int.{div_ceil}
+use Rattle.busy_period.specs.declared.timed.Timed.{Timed}
+use Rattle.busy_period.specs.Timed.{IsInRange}
+use Rattle.busy_period.specs.Demand.{instances_of, asks_of}
+
+-- a quotient rounded up never falls in its dividend
+pub div_ceil-le : (a b y : ℕ) → a ≤ b → div_ceil a y ≤ div_ceil b y
+div_ceil-le a b zero le = grind (arith, div-zero a, div-zero b, mod-zero a, mod-zero b)
+div_ceil-le a b (suc y) le =
+    let up : b ≤ div_ceil b (suc y) * suc y = (div_ceil_times b (suc y) (omega arith)).0 in
+    let down : div_ceil a (suc y) * suc y < a + suc y = (div_ceil_times a (suc y) (omega arith)).1 in
+    let below : div_ceil a (suc y) * suc y < (div_ceil b (suc y) + 1) * suc y = omega arith in
+    let lt : div_ceil a (suc y) < div_ceil b (suc y) + 1 = lt_of_mul-lt-mul_right (suc y) below in
+    omega arith
+
+-- it is at most the dividend, where it divides by at least 1
+pub div_ceil-le_self : (a y : ℕ) → 1 ≤ y → div_ceil a y ≤ a
+div_ceil-le_self a y some =
+    let down : div_ceil a y * y < a + y = (div_ceil_times a y (omega arith)).1 in
+    let up : a + y ≤ (a + 1) * y = omega (arith, mul-le-mul_left a some) in
+    let below : div_ceil a y * y < (a + 1) * y = omega arith in
+    let lt : div_ceil a y < a + 1 = lt_of_mul-lt-mul_right y below in
+    omega arith
+
+-- what a frame asks for never falls in time
+pub asks-le : (frame : Timed) (earlier later : ℕ) → earlier ≤ later → asks_of frame earlier ≤ asks_of frame later
+asks-le frame earlier later le = mul-le-mul_right frame.ticks (div_ceil-le _ _ frame.period (omega arith))
+
+-- what a frame in range asks for within 2^46 ticks
+pub asks-bound : (frame : Timed) (time : ℕ) → IsInRange frame → time ≤ 2 ^ 46 → asks_of frame time ≤ 2 ^ 47 * 100000000
+asks-bound frame time range le =
+    let instances : instances_of frame time ≤ 2 ^ 47 =
+    omega (arith, div_ceil-le_self (time + frame.jitter) frame.period range.some_period) in
+    mul-le-mul instances range.ticks

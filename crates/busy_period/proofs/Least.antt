@@ -1,0 +1,42 @@
+-- Least numbers: one exists where some number does, and it is the only one.
+use Rattle.std.proofs.Common.{◌≡◌, ℕ, ◌+◌, ◌<◌, ◌≤◌, ◌⊎◌, zero, suc, inl, inr, subst, arith}
+use Rattle.std.proofs.lemmas.Bool.{cases_lt}
+use Rattle.busy_period.specs.Least.{IsLeast}
+
+-- up to any number, a test that can be decided has a least solution, or none
+pub least_below : (P : ℕ → Type 0) → ((n : ℕ) → P n ⊎ (¬ P n)) → (n : ℕ)
+    → ((k : ℕ) × IsLeast P k) ⊎ ((m : ℕ) → m < n → ¬ P m)
+least_below P decided zero = inr (λ m below _. omega (arith, below))
+least_below P decided (suc n) =
+    elim (least_below P decided n) [
+      | inl found ↦ inl found
+      | inr none ↦ elim (decided n) [
+        | inl here ↦ inl (
+          n,
+          record {
+            holds = here;
+            least = λ m it. elim (cases_lt m n) [ inl below ↦ absurd (none m below it) | inr above ↦ above ];
+          },
+        )
+        | inr not_here ↦ inr (λ m below it. elim (cases_lt m n) [
+          | inl below' ↦ none m below' it
+          | inr above ↦ not_here (let same : m ≡ n = omega arith in subst P same it)
+        ])
+      ]
+    ]
+
+-- where some number solves it, there is a least one
+pub least_exists : (P : ℕ → Type 0) → ((n : ℕ) → P n ⊎ (¬ P n)) → (n : ℕ) → P n → (k : ℕ) × IsLeast P k
+least_exists P decided n it =
+    elim (least_below P decided (n + 1)) [
+      | inl found ↦ found
+      | inr none ↦ absurd (none n (omega arith) it)
+    ]
+
+-- there is one at most
+pub least_unique : (P : ℕ → Type 0) (m n : ℕ) → IsLeast P m → IsLeast P n → m ≡ n
+least_unique P m n first second = omega (arith, first.least n second.holds, second.least m first.holds)
+
+-- whether one number is at most another
+pub le_decided : (m n : ℕ) → (m ≤ n) ⊎ (¬ (m ≤ n))
+le_decided m n = elim (cases_lt n m) [ inl above ↦ inr (λ le. omega arith) | inr le ↦ inl le ]

@@ -1,0 +1,4 @@
+pub mod Instances
+pub mod Sums
+pub mod Stages
+pub mod Least

@@ -1,0 +1,5 @@
+pub mod Timed
+pub mod Stage
+pub mod Demand
+pub mod Least
+pub mod Busy

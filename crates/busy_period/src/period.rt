@@ -1,0 +1,69 @@
+ghost use Rattle.std.specs.Prelude.{ℕ, ◌≤◌, ◌<◌, ◌+◌, ◌*◌, ◌^◌, ◌↔◌, IsTrue, IfSome, IfNone};
+ghost use Rattle.busy_period.specs.Stage.{AreNamed, IsStage, own_of};
+ghost use Rattle.busy_period.specs.Demand.{demand_of};
+ghost use Rattle.busy_period.specs.Least.{IsLeast};
+ghost use Rattle.busy_period.specs.Busy.{IsFit, LeastBusy, IsShortBusy};
+
+use crate::level::{blocking, demand, work};
+use crate::timed::Timed;
+
+/// The most instances of a frame in a busy period that counts.
+const INSTANCES: u64 = 256;
+
+/// The least time from `from` to `limit` into which `base` ticks and all that the frames ask for within the time and
+/// `ahead` ticks more fit; None exactly where there is none up to `limit`. It climbs from below.
+pub fn least_fit(
+    frames: &[Timed],
+    numbers: &[u32],
+    base: u64,
+    ahead: u64,
+    from: u64,
+    limit: u64,
+) -> Option<u64>
+    requires named { AreNamed frames.now numbers.now }
+    requires ahead { ahead ≤ 2 ^ 45 }
+    requires limit { limit ≤ 2 ^ 45 }
+    ensures least { IfSome result (IsLeast (IsFit frames.now numbers.now base ahead from)) }
+    ensures within { IfSome result (λ time. time ≤ limit) }
+    ensures none { IfNone result ((time : ℕ) → IsFit frames.now numbers.now base ahead from time → limit < time) }
+{
+    let mut time = from;
+    while time <= limit {
+        let asked = u128::from(base) + work(frames, numbers, time + ahead);
+        if asked <= u128::from(time) {
+            return Some(time);
+        }
+        if asked > u128::from(limit) {
+            return None;
+        }
+        time = asked as u64;
+    }
+    None
+}
+
+/// The least busy period of the frame at `place`: the least time of at least one tick after which all that was asked
+/// for within it is done. None exactly where there is none within 256 instances.
+pub fn least_busy(frames: &[Timed], order: &[u32], place: usize) -> Option<u64>
+    requires { IsStage frames.now order.now place }
+    ensures least { IfSome result (LeastBusy (own_of frames.now order.now place) (demand_of frames.now order.now place)) }
+    ensures none { IfNone result
+        ((time : ℕ) → ¬ (IsShortBusy (own_of frames.now order.now place) (demand_of frames.now order.now place) time)) }
+{
+    let own = frames[order[place] as usize];
+    let limit = (INSTANCES * own.period).checked_sub(own.jitter)?;
+    let blocked = blocking(frames, order, place);
+    least_fit(frames, &order[..place + 1], blocked, 0, 1, limit)
+}
+
+/// Whether `time` is a busy period of the frame at `place` within 256 instances, not needing to be the least.
+pub fn busy_holds(frames: &[Timed], order: &[u32], place: usize, time: u64) -> bool
+    requires { IsStage frames.now order.now place }
+    ensures { IsTrue result
+        ↔ IsShortBusy (own_of frames.now order.now place) (demand_of frames.now order.now place) time }
+{
+    let own = frames[order[place] as usize];
+    time >= 1
+        && time <= INSTANCES * own.period
+        && time + own.jitter <= INSTANCES * own.period
+        && demand(frames, order, place, time) <= u128::from(time)
+}

@@ -1,0 +1,5 @@
+pub mod Records
+pub mod Decimals
+pub mod Fields
+pub mod RoundTrip
+pub mod Ranges

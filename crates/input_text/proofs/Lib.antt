@@ -1,0 +1,2 @@
+pub mod SignalRows
+pub mod SignalLaws

@@ -1,0 +1,9 @@
+//! The communication matrix: which signals share a frame, in which bits, under which identifier.
+//!
+//! The one contract that upper crates use is that of [`labels_of`]: it answers exactly where a matrix
+//! is placed, with the grouping and the order of its frames.
+#![tactic(auto)]
+
+mod matrix;
+
+pub use matrix::{Header, Matrix, MatrixRow};

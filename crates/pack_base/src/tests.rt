@@ -1,0 +1,98 @@
+// Each fake once, the reading of a whole file, and the real folder on a real file.
+use super::*;
+use std::fs;
+use std::test::Fail;
+
+#[test]
+fn files_in_memory(rt: HostRuntime) -> Result<(), Fail> {
+    let mut folder = MemFolder::new(rt.alloc());
+    folder.put("n", b"abc").map_err(|_| "memory")?;
+    folder.fail_at(3).map_err(|_| "memory")?;
+    assert_eq!(rt; folder.get("n"), Some(b"abc".as_slice()));
+    assert!(rt; folder.get("m").is_none());
+    let mut piece = [0u8; 2];
+    assert_eq!(rt; folder.read_at("n", 1, &mut piece), Ok(2));
+    assert_eq!(rt; piece.as_slice(), b"bc".as_slice());
+    assert_eq!(rt; folder.append("n", b"de"), Ok(()));
+    assert_eq!(rt; folder.append("n", b"fg"), Err(Failed), "the third call");
+    assert_eq!(rt; folder.append("n", b"h"), Ok(()));
+    assert_eq!(rt; folder.get("n"), Some(b"abcdeh".as_slice()));
+    assert_eq!(rt; folder.create("n"), Ok(()));
+    assert_eq!(rt; folder.append("m", b"x"), Ok(()));
+    assert_eq!(rt; folder.get("n"), Some(b"".as_slice()));
+    assert_eq!(rt; folder.get("m"), Some(b"x".as_slice()));
+    assert_eq!(rt; folder.read_at("none", 0, &mut piece), Err(Failed));
+    assert_eq!(rt; folder.refused(), 0);
+    Ok(())
+}
+
+#[test]
+fn whole_files(rt: HostRuntime) -> Result<(), Fail> {
+    let alloc = rt.alloc();
+    let mut folder = MemFolder::new(alloc);
+    let text = vec![in alloc; 7u8; 70000]?;
+    folder.put("n", &text).map_err(|_| "memory")?;
+    folder.fail_at(9).map_err(|_| "memory")?;
+    for (limit, size) in [(70000, Some(70000)), (100000, Some(70000)), (69999, None)] {
+        match read_whole(alloc, &mut folder, "n", limit) {
+            Ok(read) => assert_eq!(rt; Some(read.len()), size, "at {limit}"),
+            Err(e) => assert!(rt; size.is_none() && e == ReadWhole::TooLarge, "at {limit}"),
+        }
+    }
+    for (name, want) in [("n", ReadWhole::ReadFault), ("m", ReadWhole::ReadFault)] {
+        match read_whole(alloc, &mut folder, name, 70000) {
+            Ok(_) => assert!(rt; false, "the second read fails, and there is no m"),
+            Err(e) => assert_eq!(rt; e, want),
+        }
+    }
+    Ok(())
+}
+
+#[test]
+fn lines_in_memory(rt: HostRuntime) -> Result<(), Fail> {
+    let mut sink = MemSink::new(rt.alloc());
+    sink.fail_at(2).map_err(|_| "memory")?;
+    assert_eq!(rt; sink.say(b"one\n"), Ok(()));
+    assert_eq!(rt; sink.say(b"two\n"), Err(Failed));
+    assert_eq!(rt; sink.say(b"three\n"), Ok(()));
+    assert_eq!(rt; sink.said(), b"one\nthree\n".as_slice());
+    assert_eq!(rt; sink.refused(), 0);
+    Ok(())
+}
+
+#[test]
+fn steady_files_and_no_lines(rt: HostRuntime) -> Result<(), Fail> {
+    let mut folder = SteadyFolder::new(rt.alloc());
+    folder.put("n", b"abc").map_err(|_| "memory")?;
+    let mut piece = [0u8; 8];
+    for (name, at, count) in [("n", 0, 3), ("n", 2, 1), ("n", 3, 0), ("none", 0, 0)] {
+        assert_eq!(rt;
+            folder.read_at(name, at, &mut piece),
+            Ok(count),
+            "{name} from {at}"
+        );
+    }
+    assert_eq!(rt; folder.create("n"), Err(Failed));
+    assert_eq!(rt; folder.append("n", b"d"), Err(Failed));
+    assert_eq!(rt; NullSink.say(b"nothing"), Ok(()));
+    OpenGate.enter(0);
+    Ok(())
+}
+
+#[test]
+fn real_files(rt: HostRuntime) -> Result<(), Fail> {
+    let name = "pack_base_real_files";
+    let mut folder = RealFolder::new(rt.clone()?);
+    assert_eq!(rt; folder.create(name), Ok(()));
+    assert_eq!(rt; folder.append(name, b"abc"), Ok(()));
+    assert_eq!(rt; folder.append(name, b"de"), Ok(()));
+    let mut piece = [0u8; 8];
+    assert_eq!(rt; folder.read_at(name, 1, &mut piece), Ok(4));
+    assert_eq!(rt; folder.read_at(name, 5, &mut piece), Ok(0));
+    fs::remove_file(&rt, name)?;
+    assert_eq!(rt; folder.read_at(name, 0, &mut piece), Err(Failed));
+    assert_eq!(rt; folder.create("no such folder/x"), Err(Failed));
+    let mut out = RealOut::new(rt.clone()?);
+    assert_eq!(rt; out.say(b"said\n"), Ok(()));
+    Ok(())
+}

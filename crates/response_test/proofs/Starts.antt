@@ -1,0 +1,98 @@
+-- Laws of the demand before an instance, and of the times at which instances start.
+use Rattle.std.proofs.Common.{◌≡◌, ℕ, ◌+◌, ◌-◌, ◌*◌, ◌<◌, ◌≤◌, inl, inr, List, length, nat_eq, ap, arith}
+use Rattle.std.specs.List.{IsDistinct}
+use Rattle.std.specs.Int.{div_ceil}
+use Rattle.std.proofs.lemmas.Bool.{cases_lt}
+use Rattle.std.proofs.lemmas.Grind.{div_ceil_times}
+use Rattle.std.proofs.lemmas.List.Elements.{All-get_or}
+use Rattle.std.proofs.Math.Nat.{mul-le-mul_right, lt_of_mul-lt-mul_right}
+use Rattle.busy_period.specs.declared.timed.Timed.{Timed}
+use Rattle.busy_period.specs.Timed.{IsInRange, none_frame, frame_at}
+use Rattle.busy_period.specs.Stage.{IsStage, own_number, own_of, higher_of}
+use Rattle.busy_period.specs.Demand.{instances_of, asks_of, work_of, demand_of, IsSameTest}
+use Rattle.busy_period.specs.Busy.{IsBusy, LeastBusy}
+use Rattle.busy_period.proofs.Sums.{IsDistinct-take}
+use Rattle.busy_period.proofs.Stages.{work-le, work-same_set, own_is_in_range}
+use Rattle.response_test.specs.Queueing.{IsBit, queueing_of}
+use Rattle.response_test.specs.Passing.{CanStart}
+
+-- the demand before an instance never falls in time
+pub queueing-le : (frames : List Timed) (order : List ℕ) (place bit instance earlier later : ℕ) → earlier ≤ later
+    → queueing_of frames order place bit instance earlier ≤ queueing_of frames order place bit instance later
+queueing-le frames order place bit instance earlier later le =
+    omega (arith, work-le frames (higher_of order place) (earlier + bit) (later + bit) (omega arith))
+
+-- it depends on the higher frames as a set, and on the lower ones by their greatest ticks
+pub queueing-same_test : (frames : List Timed) (order : List ℕ) (place : ℕ) (order' : List ℕ) (place' : ℕ)
+    → IsDistinct nat_eq order → IsDistinct nat_eq order' → IsSameTest frames order place order' place'
+    → (bit instance start : ℕ)
+    → queueing_of frames order place bit instance start ≡ queueing_of frames order' place' bit instance start
+queueing-same_test frames order place order' place' distinct distinct' same bit instance start =
+    let work : work_of frames (higher_of order place) (start + bit) ≡ work_of frames (higher_of order' place') (start + bit) =
+    work-same_set frames _ _ (start + bit) (IsDistinct-take place order distinct) (IsDistinct-take place' order' distinct') same.higher in
+    let own : instance * (own_of frames order place).ticks ≡ instance * (own_of frames order' place').ticks =
+    ap (λ i. instance * (frame_at frames i).ticks) same.own in
+    omega (arith, same.lower, work, own)
+
+-- the frame under test is no shorter than a bit
+pub bit-le-own : (frames : List Timed) (order : List ℕ) (place bit : ℕ) → IsStage frames order place → IsBit frames bit
+    → bit ≤ (own_of frames order place).ticks
+bit-le-own frames order place bit stage is_bit =
+    All-get_or (λ frame. bit ≤ frame.ticks) frames (own_number order place) none_frame
+    (All-get_or (λ i. i < length frames) order place 0 stage.inside stage.named) is_bit.within
+
+-- a number below a quotient rounded up, and one at least as great
+pub below_quotient : (a y q : ℕ) → 1 ≤ y → q < div_ceil a y → q * y < a
+below_quotient a y q some below =
+    let down : div_ceil a y * y < a + y = (div_ceil_times a y some).1 in
+    let more : (q + 1) * y ≤ div_ceil a y * y = mul-le-mul_right y (omega arith) in
+    omega arith
+
+pub quotient-le : (a y q : ℕ) → 1 ≤ y → a ≤ q * y → div_ceil a y ≤ q
+quotient-le a y q some le =
+    let down : div_ceil a y * y < a + y = (div_ceil_times a y some).1 in
+    let below : div_ceil a y * y < (q + 1) * y = omega arith in
+    let lt : div_ceil a y < q + 1 = lt_of_mul-lt-mul_right y below in
+    omega arith
+
+-- each instance in a busy period can start the time of one sending before its end
+pub starts_before_end : (frames : List Timed) (order : List ℕ) (place bit instance busy : ℕ) → IsStage frames order place → IsBit frames bit
+    → IsBusy (demand_of frames order place) busy → instance < instances_of (own_of frames order place) busy
+    → ((own_of frames order place).ticks ≤ busy) × CanStart (queueing_of frames order place bit) instance (busy - (own_of frames order place).ticks)
+starts_before_end frames order place bit instance busy stage is_bit it inside =
+    let own : Timed = own_of frames order place in
+    let bit_le : bit ≤ own.ticks = bit-le-own frames order place bit stage is_bit in
+    let sent : (instance + 1) * own.ticks ≤ asks_of own busy = mul-le-mul_right own.ticks (omega arith) in
+    let fits : demand_of frames order place busy ≤ busy = it.done in
+    let whole : own.ticks ≤ busy = omega arith in
+    let higher : work_of frames (higher_of order place) (busy - own.ticks + bit) ≤ work_of frames (higher_of order place) busy =
+    work-le frames (higher_of order place) (busy - own.ticks + bit) busy (omega arith) in
+    (whole, omega arith)
+
+-- no instance in the busy period starts before it arrives
+pub starts_after_arrival : (frames : List Timed) (order : List ℕ) (place bit instance busy start : ℕ) → IsStage frames order place
+    → LeastBusy (own_of frames order place) (demand_of frames order place) busy → instance < instances_of (own_of frames order place) busy
+    → CanStart (queueing_of frames order place bit) instance start
+    → instance * (own_of frames order place).period ≤ (own_of frames order place).jitter + start
+starts_after_arrival frames order place bit instance busy start stage least inside can_start =
+    let own : Timed = own_of frames order place in
+    let range : IsInRange own = own_is_in_range frames order place stage in
+    let some_period : 1 ≤ own.period = range.some_period in
+    elim (cases_lt (own.jitter + start) (instance * own.period)) [
+      | inr after ↦ after
+      | inl early ↦
+          let some : 1 ≤ instance = elim (cases_lt 0 instance) [
+            | inl some ↦ some
+            | inr none ↦ absurd (omega (arith, mul-le-mul_right own.period none))
+          ] in
+          let one : 1 * own.ticks ≤ instance * own.ticks = mul-le-mul_right own.ticks some in
+          let few : instances_of own start ≤ instance = quotient-le (start + own.jitter) own.period instance some_period (omega arith) in
+          let asked : asks_of own start ≤ instance * own.ticks = mul-le-mul_right own.ticks few in
+          let higher : work_of frames (higher_of order place) start ≤ work_of frames (higher_of order place) (start + bit) =
+          work-le frames (higher_of order place) start (start + bit) (omega arith) in
+          let busy_start : IsBusy (demand_of frames order place) start =
+          record { some = omega (arith, range.some_ticks); done = omega arith } in
+          let later : busy ≤ start = least.busy.least start busy_start in
+          let before : instance * own.period < busy + own.jitter = below_quotient (busy + own.jitter) own.period instance some_period inside in
+          omega arith
+    ]

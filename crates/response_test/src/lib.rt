@@ -1,0 +1,21 @@
+//! The written response-time test of one frame: computed exactly, and checked from given numbers without a search.
+//!
+//! The test is that of Davis, Burns, Bril and Lukkien, "Controller Area Network (CAN) schedulability analysis" (2007),
+//! with release jitter: each instance in the frame's busy period ends by its deadline, wherever lower frames block and
+//! higher ones come first. Its condition, besides a stage of `busy_period`, is the time of a nominal bit, at least 1 and
+//! at most the ticks of each frame. All times are whole ticks.
+//!
+//! No call takes memory, and each returns for every stage.
+#![tactic(auto)]
+
+mod given;
+mod laws;
+mod queue;
+mod written;
+
+pub use given::shown;
+pub use laws::{
+    passing_is_being_shown, queueing_never_falls, shown_numbers_pass, test_depends_on_sets,
+};
+pub use queue::least_queue;
+pub use written::{passes, worst_response};
