@@ -1,5 +1,5 @@
 -- The relation of stuffing holds of exactly one list, the one that is computed.
-use Rattle.std.proofs.Common.{◌≡◌, ℕ, ◌<◌, Bool, true, false, not, List, [], ◌∷◌, ◌++◌, length, refl, sym, ap, ◌∙◌, arith}
+use Rattle.std.proofs.Common.{◌≡◌, ◌↔◌, ℕ, ◌<◌, Bool, true, false, not, List, [], ◌∷◌, ◌++◌, length, refl, sym, ap, ◌∙◌, arith}
 use Rattle.std.proofs.lemmas.Bool.Decides.{nat_tests}
 use Rattle.pack_model.specs.declared.network.Network.{Network}
 use Rattle.frame_ticks.specs.Stuffing.{Stuffed, inserts, sends, ends, no_run, run_with, is_fifth, sent_of, run_after, run_of, stuffed_of}
@@ -33,9 +33,19 @@ Stuffed-unique (sends {bit = bit} short first) (sends also second) = ap (λ more
 Stuffed-unique (ends short) (inserts full second) = absurd (omega arith)
 Stuffed-unique (ends short) (ends also) = refl
 
+-- where there is no run yet, its value tells nothing
+pub stuffed_of-no_run : (value : Bool) (bits : List Bool) → stuffed_of (record { long = 0; value = value }) bits ≡ stuffed_of no_run bits
+stuffed_of-no_run true bits = refl
+stuffed_of-no_run false [] = rw (stuffed_of-nil, stuffed_of-nil) refl
+stuffed_of-no_run false (true ∷ rest) = rw (stuffed_of-cons, stuffed_of-cons) refl
+stuffed_of-no_run false (false ∷ rest) = rw (stuffed_of-cons, stuffed_of-cons) refl
+
 -- from the start there is exactly one outcome
-pub stuffed_of-outcome : (bits out : List Bool) → Stuffed 0 true bits out → out ≡ stuffed_of no_run bits
-stuffed_of-outcome bits out sent = Stuffed-unique sent (Stuffed-of 0 true bits (omega arith))
+pub Stuffed-exactly : (value : Bool) (bits out : List Bool) → Stuffed 0 value bits out ↔ (out ≡ stuffed_of no_run bits)
+Stuffed-exactly value bits out = (
+  λ sent. Stuffed-unique sent (Stuffed-of 0 value bits (omega arith)) ∙ stuffed_of-no_run value bits,
+  λ same. rw (same, ← stuffed_of-no_run value bits) (Stuffed-of 0 value bits (omega arith)),
+)
 
 -- what is sent splits after BRS
 pub stuffed_of-split : (bits : List Bool) → stuffed_of no_run bits ≡ stuffed_of no_run (to_brs bits) ++ stuffed_of (run_of no_run (to_brs bits)) (after_brs bits)
@@ -55,8 +65,8 @@ Lasts-from_value network bits ticks value = record {
 -- and no others are
 pub ticks_of-from_Lasts : (network : Network) (bits : List Bool) (ticks : ℕ) → Lasts network bits ticks → ticks ≡ ticks_of network bits
 ticks_of-from_Lasts network bits ticks lasts =
-    let nominal = stuffed_of-outcome (to_brs bits) lasts.nominal lasts.sent_to_brs in
-    let all = stuffed_of-outcome bits (lasts.nominal ++ lasts.others) lasts.sent in
+    let nominal = (Stuffed-exactly true (to_brs bits) lasts.nominal).0 lasts.sent_to_brs in
+    let all = (Stuffed-exactly true bits (lasts.nominal ++ lasts.others)).0 lasts.sent in
     let others = append_cancel_left (stuffed_of no_run (to_brs bits)) lasts.others (stuffed_of (run_of no_run (to_brs bits)) (after_brs bits))
     (ap (λ front. front ++ lasts.others) (sym nominal) ∙ all ∙ stuffed_of-split bits) in
     lasts.counted

@@ -3,7 +3,7 @@
 use Rattle.std.specs.Prelude.{◌≡◌, ℕ, ◌+◌, ◌<◌, ◌==◌, Bool, true, not, List, [], ◌∷◌, ◌++◌, fold, if◌then◌else◌}
 use Rattle.std.specs.Bool.{beq}
 
--- how many equal bits end with this one, after a run of so many equal to `value`
+-- how many equal bits end with this one, after a run of so many equal to `value`; after no run, one
 abbrev pub run_with : ℕ → Bool → Bool → ℕ
 run_with run value bit = if beq bit value then run + 1 else 1
 
