@@ -11,6 +11,8 @@
 mod laws;
 mod level;
 mod period;
+#[cfg(test)]
+mod tests;
 mod timed;
 
 pub use laws::{demand_depends_on_sets, demand_never_falls};

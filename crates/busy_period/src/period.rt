@@ -55,15 +55,15 @@ pub fn least_busy(frames: &[Timed], order: &[u32], place: usize) -> Option<u64>
     least_fit(frames, &order[..place + 1], blocked, 0, 1, limit)
 }
 
-/// Whether `time` is a busy period of the frame at `place` within 256 instances, not needing to be the least.
-pub fn busy_holds(frames: &[Timed], order: &[u32], place: usize, time: u64) -> bool
+/// Whether `t` is a busy period of the frame at `place` within 256 instances, not needing to be the least.
+pub fn busy_holds(frames: &[Timed], order: &[u32], place: usize, t: u64) -> bool
     requires { IsStage frames.now order.now place }
     ensures { IsTrue result
-        ↔ IsShortBusy (own_of frames.now order.now place) (demand_of frames.now order.now place) time }
+        ↔ IsShortBusy (own_of frames.now order.now place) (demand_of frames.now order.now place) t }
 {
     let own = frames[order[place] as usize];
-    time >= 1
-        && time <= INSTANCES * own.period
-        && time + own.jitter <= INSTANCES * own.period
-        && demand(frames, order, place, time) <= u128::from(time)
+    t >= 1
+        && t <= INSTANCES * own.period
+        && t + own.jitter <= INSTANCES * own.period
+        && demand(frames, order, place, t) <= u128::from(t)
 }
