@@ -11,6 +11,8 @@
 mod given;
 mod laws;
 mod queue;
+#[cfg(test)]
+mod tests;
 mod written;
 
 pub use given::shown;
