@@ -1,5 +1,5 @@
 -- What the tests of stages that are written out say.
-use Rattle.std.proofs.Common.{◌≡◌, ℕ, ◌<◌, ◌≤◌, Bool, true, false, not, ◌&&◌, IsTrue, List, [], ◌∷◌, length, nat_eq, nat_le, nat_lt, All, arith}
+use Rattle.std.proofs.Common.{◌≡◌, ℕ, ◌<◌, Bool, true, false, not, ◌&&◌, IsTrue, List, [], ◌∷◌, length, nat_eq, nat_le, nat_lt, All, arith}
 use Rattle.std.specs.List.{IsDistinct, list_all}
 use Rattle.std.proofs.lemmas.Bool.{and_parts, leb-true, ltb-true, not-true}
 use Rattle.std.proofs.lemmas.Grind.{common_steps}
@@ -20,7 +20,7 @@ in_range_from_test frame it =
       some_ticks = grind (arith, common_steps);
       ticks = grind (arith, common_steps);
       some_deadline = grind (arith, common_steps);
-      deadline = grind (arith, common_steps)
+      deadline = grind (arith, common_steps);
     }
 
 distinct_from_test : (xs : List ℕ) → are_distinct xs ≡ true → IsDistinct nat_eq xs
@@ -29,8 +29,8 @@ distinct_from_test [] it = tt
 distinct_from_test (x ∷ xs) it =
     let parts = and_parts (list_all (λ y. not (nat_eq x y)) xs) (are_distinct xs) it in
     let apart : All (λ y. nat_eq x y ≡ false) xs =
-        All-weaker (λ y. not (nat_eq x y) ≡ true) (λ y. nat_eq x y ≡ false) (λ y. not-true (nat_eq x y)) xs
-          (AllPass-from_list_all (λ y. not (nat_eq x y)) xs parts.0) in
+    All-weaker (λ y. not (nat_eq x y) ≡ true) (λ y. nat_eq x y ≡ false) (λ y. not-true (nat_eq x y)) xs
+    (AllPass-from_list_all (λ y. not (nat_eq x y)) xs parts.0) in
     IsDistinct-cons nat_eq x xs (recursion_from_All (λ y. nat_eq x y ≡ false) xs apart) (distinct_from_test xs parts.1)
 
 -- a stage that passes the test is one
@@ -49,7 +49,7 @@ stage_from_test frames order place it =
       few = leb-true (length frames) 128 few_parts.0;
       in_range = All-weaker (λ frame. is_in_range frame ≡ true) IsInRange in_range_from_test frames (AllPass-from_list_all is_in_range frames few_parts.1);
       named = All-weaker (λ number. nat_lt number (length frames) ≡ true) (λ number. number < length frames) (λ number. ltb-true number (length frames)) order
-        (AllPass-from_list_all (λ number. nat_lt number (length frames)) order named_parts.1);
+          (AllPass-from_list_all (λ number. nat_lt number (length frames)) order named_parts.1);
       distinct = distinct_from_test order distinct_parts.1;
-      inside = ltb-true place (length order) inside_parts.1
+      inside = ltb-true place (length order) inside_parts.1;
     }

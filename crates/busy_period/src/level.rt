@@ -15,8 +15,7 @@ pub fn work(frames: &[Timed], numbers: &[u32], time: u64) -> u128
     let mut total = 0;
     for &number in numbers {
         let frame = frames[number as usize];
-        let instances = (time + frame.jitter).div_ceil(frame.period);
-        total += u128::from(instances) * u128::from(frame.ticks);
+        total += u128::from(frame.instances(time)) * u128::from(frame.ticks);
     }
     total
 }

@@ -17,13 +17,7 @@ macro_rules! timed {
 
 /// The least busy period of a stage is the one that is known, and nothing shorter is one.
 #[tactic(auto, using(crate::proofs::Checks::stage_from_test))]
-fn expect_busy(
-    rt: &impl Abort,
-    frames: &[Timed],
-    order: &[u32],
-    place: usize,
-    known: Option<u64>,
-)
+fn expect_busy(rt: &impl Abort, frames: &[Timed], order: &[u32], place: usize, known: Option<u64>)
     requires { IsTrue (is_stage frames.now order.now place) }
 {
     assert_eq!(rt; least_busy(frames, order, place), known);
@@ -60,9 +54,33 @@ fn busy_periods(rt: HostRuntime) {
 #[test]
 fn up_to_256_instances(rt: HostRuntime) {
     // Each tick of blocking costs an instance: a period of 10 leaves one tick after 9.
-    expect_busy(&rt, &[timed!(10, 0, 9), timed!(1000, 0, 256)], &[0, 1], 0, Some(2560));
-    expect_busy(&rt, &[timed!(10, 0, 9), timed!(1000, 0, 257)], &[0, 1], 0, None);
+    expect_busy(
+        &rt,
+        &[timed!(10, 0, 9), timed!(1000, 0, 256)],
+        &[0, 1],
+        0,
+        Some(2560),
+    );
+    expect_busy(
+        &rt,
+        &[timed!(10, 0, 9), timed!(1000, 0, 257)],
+        &[0, 1],
+        0,
+        None,
+    );
     // A jitter of one period is one instance and its time.
-    expect_busy(&rt, &[timed!(10, 10, 9), timed!(1000, 0, 246)], &[0, 1], 0, Some(2550));
-    expect_busy(&rt, &[timed!(10, 10, 9), timed!(1000, 0, 247)], &[0, 1], 0, None);
+    expect_busy(
+        &rt,
+        &[timed!(10, 10, 9), timed!(1000, 0, 246)],
+        &[0, 1],
+        0,
+        Some(2550),
+    );
+    expect_busy(
+        &rt,
+        &[timed!(10, 10, 9), timed!(1000, 0, 247)],
+        &[0, 1],
+        0,
+        None,
+    );
 }

@@ -44,7 +44,7 @@ pub fn shown(frames: &[Timed], order: &[u32], place: usize, bit: u64, t: u64, w:
         return false;
     }
     let own = frames[order[place] as usize];
-    if w.len() as u64 != (t + own.jitter).div_ceil(own.period) {
+    if w.len() as u64 != own.instances(t) {
         return false;
     }
     for (instance, &start) in w.iter().enumerate() {

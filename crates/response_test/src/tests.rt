@@ -43,8 +43,7 @@ fn expect_starts(rt: &impl Abort, frames: &[Timed], order: &[u32], place: usize,
 {
     let busy = least_busy(frames, order, place).expect(rt, "a busy period");
     let own = frames[order[place] as usize];
-    let count = (busy + own.jitter).div_ceil(own.period);
-    assert_eq!(rt; starts.len() as u64, count);
+    assert_eq!(rt; starts.len() as u64, own.instances(busy));
     for (instance, &start) in starts.iter().enumerate() {
         assert_eq!(rt;
             least_queue(frames, order, place, 1, instance as u64),

@@ -36,7 +36,7 @@ pub fn passes(frames: &[Timed], order: &[u32], place: usize, bit: u64) -> bool
         return false;
     };
     let own = frames[order[place] as usize];
-    for instance in 0..(busy + own.jitter).div_ceil(own.period) {
+    for instance in 0..own.instances(busy) {
         if !instance_passes(frames, order, place, bit, instance) {
             return false;
         }
@@ -57,8 +57,9 @@ pub fn worst_response(frames: &[Timed], order: &[u32], place: usize, bit: u64) -
 {
     let busy = least_busy(frames, order, place)?;
     let own = frames[order[place] as usize];
+    let count = own.instances(busy);
     let mut worst = 0;
-    for instance in 0..(busy + own.jitter).div_ceil(own.period) {
+    for instance in 0..count {
         let start = least_queue(frames, order, place, bit, instance);
         let response = own.jitter + start + own.ticks - instance * own.period;
         worst = response.max(worst);
