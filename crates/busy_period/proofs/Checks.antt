@@ -34,7 +34,8 @@ distinct_from_test (x ∷ xs) it =
     IsDistinct-cons nat_eq x xs (recursion_from_All (λ y. nat_eq x y ≡ false) xs apart) (distinct_from_test xs parts.1)
 
 -- a stage that passes the test is one
-pub stage_from_test : (frames : List Timed) (order : List ℕ) (place : ℕ) → IsTrue (is_stage frames order place) → IsStage frames order place
+pub stage_from_test : (frames : List Timed) (order : List ℕ) (place : ℕ) → IsTrue (is_stage frames order place)
+    → IsStage frames order place
 stage_from_test frames order place it =
     let few : Bool = nat_le (length frames) 128 in
     let in_range : Bool = list_all is_in_range frames in

@@ -16,7 +16,8 @@ use Rattle.busy_period.proofs.Instances.{asks-le}
 use Rattle.busy_period.proofs.Sums.{IsDistinct-take, sum_by-same_set}
 
 -- an order of a stage is no longer than its frames
-pub order_is_few : (frames : List Timed) (order : List ℕ) (place : ℕ) → IsStage frames order place → length order ≤ 128
+pub order_is_few : (frames : List Timed) (order : List ℕ) (place : ℕ) → IsStage frames order place
+    → length order ≤ 128
 order_is_few frames order place stage =
     let below : (number : ℕ) → list_any (nat_eq number) order ≡ true → number < length frames = λ number found.
     All-contains (λ i. i < length frames) order number stage.named (Contains-from_any (λ a b. eqb-true a b) number order found) in
@@ -25,19 +26,22 @@ order_is_few frames order place stage =
     omega arith
 
 -- each frame that is named is in range
-pub named_is_in_range : (frames : List Timed) (numbers : List ℕ) (index : ℕ) → AreNamed frames numbers → index < length numbers
+pub named_is_in_range : (frames : List Timed) (numbers : List ℕ) (index : ℕ) → AreNamed frames numbers
+    → index < length numbers
     → IsInRange (frame_at frames (get_or numbers index 0))
 named_is_in_range frames numbers index named inside =
     All-get_or IsInRange frames (get_or numbers index 0) none_frame (All-get_or (λ i. i < length frames) numbers index 0 inside named.named) named.in_range
 
 -- and so is the frame under test
-pub own_is_in_range : (frames : List Timed) (order : List ℕ) (place : ℕ) → IsStage frames order place → IsInRange (own_of frames order place)
+pub own_is_in_range : (frames : List Timed) (order : List ℕ) (place : ℕ) → IsStage frames order place
+    → IsInRange (own_of frames order place)
 own_is_in_range frames order place stage =
     All-get_or IsInRange frames (own_number order place) none_frame
     (All-get_or (λ i. i < length frames) order place 0 stage.inside stage.named) stage.in_range
 
 -- a part of an order names frames
-pub front_is_named : (frames : List Timed) (order : List ℕ) (place n : ℕ) → IsStage frames order place → n ≤ length order
+pub front_is_named : (frames : List Timed) (order : List ℕ) (place n : ℕ) → IsStage frames order place
+    → n ≤ length order
     → AreNamed frames (take n order)
 front_is_named frames order place n stage le =
     record {
@@ -90,7 +94,8 @@ demand-same_test frames order place order' place' distinct distinct' same time =
 
 -- up to a solution of a climb, base and work stay at most that solution
 pub fit-above : (frames : List Timed) (numbers : List ℕ) (base ahead from earlier time : ℕ)
-    → IsFit frames numbers base ahead from time → earlier ≤ time → base + work_of frames numbers (earlier + ahead) ≤ time
+    → IsFit frames numbers base ahead from time → earlier ≤ time
+    → base + work_of frames numbers (earlier + ahead) ≤ time
 fit-above frames numbers base ahead from earlier time fit le =
     omega (arith, fit.done, work-le frames numbers (earlier + ahead) (time + ahead) (omega arith))
 
@@ -114,7 +119,8 @@ fit_from_busy frames order place time inside busy =
     }
 
 -- what the climb up to the last time within 256 instances finds is the busy period
-pub busy_of_climb : (frames : List Timed) (order : List ℕ) (place limit : ℕ) (found : Option ℕ) → place < length order
+pub busy_of_climb : (frames : List Timed) (order : List ℕ) (place limit : ℕ) (found : Option ℕ)
+    → place < length order
     → limit + (own_of frames order place).jitter ≤ 256 * (own_of frames order place).period
     → IfSome found (IsLeast (IsFit frames (take (place + 1) order) (blocking_of frames (lower_of order place)) 0 1))
     → IfSome found (λ time. time ≤ limit)
@@ -130,7 +136,8 @@ busy_of_climb frames order place limit (Some time) inside short least within =
     }
 
 -- what it does not find is none
-pub none_of_climb : (frames : List Timed) (order : List ℕ) (place limit : ℕ) (found : Option ℕ) → place < length order
+pub none_of_climb : (frames : List Timed) (order : List ℕ) (place limit : ℕ) (found : Option ℕ)
+    → place < length order
     → 256 * (own_of frames order place).period ≤ limit + (own_of frames order place).jitter
     → IfNone found ((time : ℕ) → IsFit frames (take (place + 1) order) (blocking_of frames (lower_of order place)) 0 1 time → limit < time)
     → IfNone found ((time : ℕ) → ¬ (IsShortBusy (own_of frames order place) (demand_of frames order place) time))

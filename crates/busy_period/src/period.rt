@@ -1,8 +1,7 @@
 ghost use Rattle.std.specs.Prelude.{ℕ, ◌≤◌, ◌<◌, ◌+◌, ◌*◌, ◌^◌, ◌↔◌, IsTrue, IfSome, IfNone};
-ghost use Rattle.busy_period.specs.Stage.{AreNamed, IsStage, own_of};
-ghost use Rattle.busy_period.specs.Demand.{demand_of};
+ghost use Rattle.busy_period.specs.Stage.{AreNamed, IsStage};
 ghost use Rattle.busy_period.specs.Least.{IsLeast};
-ghost use Rattle.busy_period.specs.Busy.{IsFit, LeastBusy, IsShortBusy};
+ghost use Rattle.busy_period.specs.Busy.{IsFit, FrameBusy, FrameLeastBusy};
 
 use crate::level::{blocking, demand, work};
 use crate::timed::Timed;
@@ -45,9 +44,8 @@ pub fn least_fit(
 /// for within it is done. None exactly where there is none within 256 instances.
 pub fn least_busy(frames: &[Timed], order: &[u32], place: usize) -> Option<u64>
     requires { IsStage frames.now order.now place }
-    ensures least { IfSome result (LeastBusy (own_of frames.now order.now place) (demand_of frames.now order.now place)) }
-    ensures none { IfNone result
-        ((time : ℕ) → ¬ (IsShortBusy (own_of frames.now order.now place) (demand_of frames.now order.now place) time)) }
+    ensures least { IfSome result (FrameLeastBusy frames.now order.now place) }
+    ensures none { IfNone result ((time : ℕ) → ¬ (FrameBusy frames.now order.now place time)) }
 {
     let own = frames[order[place] as usize];
     let limit = (INSTANCES * own.period).checked_sub(own.jitter)?;
@@ -58,8 +56,7 @@ pub fn least_busy(frames: &[Timed], order: &[u32], place: usize) -> Option<u64>
 /// Whether `t` is a busy period of the frame at `place` within 256 instances, not needing to be the least.
 pub fn busy_holds(frames: &[Timed], order: &[u32], place: usize, t: u64) -> bool
     requires { IsStage frames.now order.now place }
-    ensures { IsTrue result
-        ↔ IsShortBusy (own_of frames.now order.now place) (demand_of frames.now order.now place) t }
+    ensures { IsTrue result ↔ FrameBusy frames.now order.now place t }
 {
     let own = frames[order[place] as usize];
     t >= 1

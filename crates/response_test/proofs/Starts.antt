@@ -35,7 +35,8 @@ queueing-same_test frames order place order' place' distinct distinct' same bit 
     omega (arith, same.lower, work, own)
 
 -- the frame under test is no shorter than a bit
-pub bit-le-own : (frames : List Timed) (order : List ℕ) (place bit : ℕ) → IsStage frames order place → IsBit frames bit
+pub bit-le-own : (frames : List Timed) (order : List ℕ) (place bit : ℕ) → IsStage frames order place
+    → IsBit frames bit
     → bit ≤ (own_of frames order place).ticks
 bit-le-own frames order place bit stage is_bit =
     All-get_or (λ frame. bit ≤ frame.ticks) frames (own_number order place) none_frame
@@ -56,7 +57,8 @@ quotient-le a y q some le =
     omega arith
 
 -- each instance in a busy period can start the time of one sending before its end
-pub starts_before_end : (frames : List Timed) (order : List ℕ) (place bit instance busy : ℕ) → IsStage frames order place → IsBit frames bit
+pub starts_before_end : (frames : List Timed) (order : List ℕ) (place bit instance busy : ℕ)
+    → IsStage frames order place → IsBit frames bit
     → IsBusy (demand_of frames order place) busy → instance < instances_of (own_of frames order place) busy
     → ((own_of frames order place).ticks ≤ busy) × CanStart (queueing_of frames order place bit) instance (busy - (own_of frames order place).ticks)
 starts_before_end frames order place bit instance busy stage is_bit it inside =
@@ -70,8 +72,10 @@ starts_before_end frames order place bit instance busy stage is_bit it inside =
     (whole, omega arith)
 
 -- no instance in the busy period starts before it arrives
-pub starts_after_arrival : (frames : List Timed) (order : List ℕ) (place bit instance busy start : ℕ) → IsStage frames order place
-    → LeastBusy (own_of frames order place) (demand_of frames order place) busy → instance < instances_of (own_of frames order place) busy
+pub starts_after_arrival : (frames : List Timed) (order : List ℕ) (place bit instance busy start : ℕ)
+    → IsStage frames order place
+    → LeastBusy (own_of frames order place) (demand_of frames order place) busy
+    → instance < instances_of (own_of frames order place) busy
     → CanStart (queueing_of frames order place bit) instance start
     → instance * (own_of frames order place).period ≤ (own_of frames order place).jitter + start
 starts_after_arrival frames order place bit instance busy start stage least inside can_start =

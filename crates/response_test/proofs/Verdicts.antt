@@ -39,7 +39,8 @@ instance_passes own queueing instance it =
     }
 
 -- what is shown to pass passes: the least busy period is shorter, so it has no more instances
-pub passes_from_shown : (own : Timed) (demand : ℕ → ℕ) (queueing : ℕ → ℕ → ℕ) → Shown own demand queueing → Passes own demand queueing
+pub passes_from_shown : (own : Timed) (demand : ℕ → ℕ) (queueing : ℕ → ℕ → ℕ) → Shown own demand queueing
+    → Passes own demand queueing
 passes_from_shown own demand queueing it =
     let found : (k : ℕ) × IsLeast (IsBusy demand) k = least_exists (IsBusy demand) (busy_decided demand) it.busy it.holds.busy in
     let le : found.0 ≤ it.busy = found.1.least it.busy it.holds.busy in
@@ -51,7 +52,8 @@ passes_from_shown own demand queueing it =
     }
 
 -- the least busy period and the least starts show it
-pub shown_from_passes : (own : Timed) (demand : ℕ → ℕ) (queueing : ℕ → ℕ → ℕ) → Passes own demand queueing → Shown own demand queueing
+pub shown_from_passes : (own : Timed) (demand : ℕ → ℕ) (queueing : ℕ → ℕ → ℕ) → Passes own demand queueing
+    → Shown own demand queueing
 shown_from_passes own demand queueing it =
     record {
       busy = it.busy;
@@ -63,7 +65,8 @@ shown_from_passes own demand queueing it =
 
 -- demands that agree at each time show the same
 pub shown_along : (own : Timed) (demand demand' : ℕ → ℕ) (queueing queueing' : ℕ → ℕ → ℕ)
-    → ((time : ℕ) → demand time ≡ demand' time) → ((instance start : ℕ) → queueing instance start ≡ queueing' instance start)
+    → ((time : ℕ) → demand time ≡ demand' time)
+    → ((instance start : ℕ) → queueing instance start ≡ queueing' instance start)
     → Shown own demand queueing → Shown own demand' queueing'
 shown_along own demand demand' queueing queueing' same same' it =
     record {
@@ -112,8 +115,10 @@ same_test_back frames order place order' place' same =
     }
 
 -- where the frame passes, the least start of each instance in its busy period is in time
-pub in_time_from_passes : (own : Timed) (demand : ℕ → ℕ) (queueing : ℕ → ℕ → ℕ) (busy instance start : ℕ) → Passes own demand queueing
-    → LeastBusy own demand busy → instance < instances_of own busy → IsLeast (CanStart queueing instance) start → IsInTime own instance start
+pub in_time_from_passes : (own : Timed) (demand : ℕ → ℕ) (queueing : ℕ → ℕ → ℕ) (busy instance start : ℕ)
+    → Passes own demand queueing
+    → LeastBusy own demand busy → instance < instances_of own busy → IsLeast (CanStart queueing instance) start
+    → IsInTime own instance start
 in_time_from_passes own demand queueing busy instance start it least inside first =
     let same : busy ≡ it.busy = least_unique (IsBusy demand) busy it.busy least.busy it.least.busy in
     let P : ℕ → Type 0 = λ time. instance < instances_of own time in

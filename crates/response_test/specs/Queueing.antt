@@ -8,8 +8,8 @@ pub record IsBit (frames : List Timed) (bit : ℕ) : Type 0 where
   pub some : 1 ≤ bit
   pub within : All (λ frame. bit ≤ frame.ticks) frames
 
--- the demand before an instance starts: blocking, the instances of the frame before it, and the work of higher frames that
--- are queued up to one bit later, since a frame joins within one nominal bit
+-- the demand before an instance starts: blocking, the instances of the frame before it, and the work of higher frames
+-- that are queued up to one bit later, since a frame joins within one nominal bit
 abbrev pub queueing_of : List Timed → List ℕ → ℕ → ℕ → ℕ → ℕ → ℕ
 queueing_of frames order place bit instance start =
     blocking_of frames (lower_of order place) + instance * (own_of frames order place).ticks

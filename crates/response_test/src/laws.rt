@@ -26,7 +26,8 @@ pub fn test_depends_on_sets()
 
 /// A law: a frame passes exactly where some busy period and some starts show it, whatever its demands are.
 pub fn passing_is_being_shown()
-    ensures { (own : Timed) (demand : ℕ → ℕ) (queueing : ℕ → ℕ → ℕ) → Passes own demand queueing ↔ Shown own demand queueing }
+    ensures { (own : Timed) (demand : ℕ → ℕ) (queueing : ℕ → ℕ → ℕ)
+        → Passes own demand queueing ↔ Shown own demand queueing }
 {}
 
 /// A law: numbers that show it imply that the frame passes.
