@@ -29,7 +29,7 @@ demand_of frames order place time =
 
 -- two places test the same frame against the same higher frames and the same blocking
 pub record IsSameTest (frames : List Timed) (order : List ℕ) (place : ℕ) (order' : List ℕ) (place' : ℕ)
-  : Type 0 where
+    : Type 0 where
   pub own : own_number order place ≡ own_number order' place'
   pub higher : IsSameSet (higher_of order place) (higher_of order' place')
   pub lower : blocking_of frames (lower_of order place) ≡ blocking_of frames (lower_of order' place')

@@ -46,6 +46,6 @@ pub record IsShown (frames : List Timed) (order : List ℕ) (place bit busy : �
   pub holds : FrameBusy frames order place busy
   pub count : length starts ≡ instances_of (own_of frames order place) busy
   pub can_start : (instance : ℕ) → instance < length starts
-    → FrameCanStart frames order place bit instance (slice_index starts instance)
+      → FrameCanStart frames order place bit instance (slice_index starts instance)
   pub in_time : (instance : ℕ) → instance < length starts
-    → FrameIsInTime frames order place instance (slice_index starts instance)
+      → FrameIsInTime frames order place instance (slice_index starts instance)

@@ -1,6 +1,4 @@
-use Rattle.std.proofs.Common.{ℕ, ◌+◌, ◌≤◌, arith}
-use Rattle.busy_period.specs.Demand.{work_of}
-use Rattle.busy_period.specs.Busy.{IsFit}
+use Rattle.std.proofs.Common.{arith}
 use Rattle.busy_period.proofs.Stages.{fit-above}
 use Rattle.busy_period.proofs.period.least_fit.Goals as goal
 
@@ -15,5 +13,5 @@ loop-time-preserved c =
     record {
       begun = omega arith;
       below = λ time fit.
-        omega (arith, fit-above _ _ _ c.args.ahead c.args.from c.loop-time.time time fit (c.loop-time.invariant.below time fit))
+          omega (arith, fit-above _ _ _ c.args.ahead c.args.from c.loop-time.time time fit (c.loop-time.invariant.below time fit));
     }
