@@ -1,10 +1,11 @@
 use Rattle.std.specs.Prelude.{◌≡◌, ℕ, ◌<◌, List, length, slice_index}
 use Rattle.busy_period.specs.declared.timed.Timed.{Timed}
-use Rattle.busy_period.specs.Stage.{own_of}
-use Rattle.busy_period.specs.Demand.{instances_of, demand_of}
+use Rattle.busy_period.specs.Timed.{frame_at}
+use Rattle.busy_period.specs.Stage.{own_number, own_of, higher_of, lower_of}
+use Rattle.busy_period.specs.Demand.{instances_of, demand_against, demand_of}
 use Rattle.busy_period.specs.Least.{IsLeast}
 use Rattle.busy_period.specs.Busy.{FrameBusy, FrameLeastBusy}
-use Rattle.response_test.specs.Queueing.{queueing_of}
+use Rattle.response_test.specs.Queueing.{queueing_against, queueing_of}
 use Rattle.response_test.specs.Passing.{CanStart, IsInTime, InstancePasses, Passes, WorstResponse}
 
 -- an instance of the frame at a place can start at a time
@@ -24,10 +25,15 @@ abbrev pub FrameInstancePasses : List Timed → List ℕ → ℕ → ℕ → ℕ
 FrameInstancePasses frames order place bit =
     InstancePasses (own_of frames order place) (queueing_of frames order place bit)
 
+-- a frame passes the written test against higher and lower ones
+abbrev pub PassesAgainst : List Timed → ℕ → List ℕ → List ℕ → ℕ → Type 0
+PassesAgainst frames own higher lower bit =
+    Passes (frame_at frames own) (demand_against frames own higher lower) (queueing_against frames own higher lower bit)
+
 -- the frame at a place passes the written test
 abbrev pub FramePasses : List Timed → List ℕ → ℕ → ℕ → Type 0
-FramePasses frames order place bit =
-    Passes (own_of frames order place) (demand_of frames order place) (queueing_of frames order place bit)
+FramePasses frames order place =
+    PassesAgainst frames (own_number order place) (higher_of order place) (lower_of order place)
 
 -- the worst response of the frame at a place
 abbrev pub FrameWorstResponse : List Timed → List ℕ → ℕ → ℕ → ℕ → Type 0
