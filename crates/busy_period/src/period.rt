@@ -7,7 +7,7 @@ use crate::level::{blocking, demand, work};
 use crate::timed::Timed;
 
 /// The most instances of a frame in a busy period that counts.
-const INSTANCES: u64 = 256;
+pub const MAX_INSTANCES: u64 = 256;
 
 /// The least time from `from` to `limit` into which `base` ticks and all that the frames ask for within the time and
 /// `ahead` ticks more fit; None exactly where there is none up to `limit`. It climbs from below.
@@ -48,7 +48,7 @@ pub fn least_busy(frames: &[Timed], order: &[u32], place: usize) -> Option<u64>
     ensures none { IfNone result ((time : ℕ) → ¬ (FrameBusy frames.now order.now place time)) }
 {
     let own = frames[order[place] as usize];
-    let limit = (INSTANCES * own.period).checked_sub(own.jitter)?;
+    let limit = (MAX_INSTANCES * own.period).checked_sub(own.jitter)?;
     let blocked = blocking(frames, order, place);
     least_fit(frames, &order[..place + 1], blocked, 0, 1, limit)
 }
@@ -60,7 +60,7 @@ pub fn busy_holds(frames: &[Timed], order: &[u32], place: usize, t: u64) -> bool
 {
     let own = frames[order[place] as usize];
     t >= 1
-        && t <= INSTANCES * own.period
-        && t + own.jitter <= INSTANCES * own.period
+        && t <= MAX_INSTANCES * own.period
+        && t + own.jitter <= MAX_INSTANCES * own.period
         && demand(frames, order, place, t) <= u128::from(t)
 }

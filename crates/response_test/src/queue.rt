@@ -7,10 +7,7 @@ ghost use Rattle.busy_period.specs.Busy.{FrameLeastBusy};
 ghost use Rattle.response_test.specs.Queueing.{IsBit, queueing_of};
 ghost use Rattle.response_test.specs.Frame.{FrameCanStart, FrameLeastStart, FrameIsInTime, FramePasses, HasInstance};
 
-use busy_period::{Timed, blocking, least_fit, work};
-
-/// The most instances of a frame in a busy period that counts.
-const INSTANCES: u64 = 256;
+use busy_period::{MAX_INSTANCES, Timed, blocking, least_fit, work};
 
 /// What comes before an instance of the frame at `place` besides higher frames: blocking, and the frame's instances
 /// before it. `instance` is at most 256.
@@ -89,5 +86,5 @@ pub fn least_queue(frames: &[Timed], order: &[u32], place: usize, bit: u64, q: u
     ensures in_time { FramePasses frames.now order.now place bit → FrameIsInTime frames.now order.now place q result }
 {
     let own = frames[order[place] as usize];
-    least_start(frames, order, place, bit, q, INSTANCES * own.period).unwrap()
+    least_start(frames, order, place, bit, q, MAX_INSTANCES * own.period).unwrap()
 }
