@@ -1,0 +1,6 @@
+pub mod Command
+pub mod Ending
+pub mod Line
+pub mod Text
+pub mod Check
+pub mod Reads
