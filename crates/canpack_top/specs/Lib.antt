@@ -2,5 +2,6 @@ pub mod Command
 pub mod Ending
 pub mod Line
 pub mod Text
+pub mod Answer
 pub mod Check
 pub mod Reads

@@ -5,6 +5,7 @@ use Rattle.std.specs.Str.{bytes_eq}
 use Rattle.csv_table.specs.Columns.{◌>>=◌}
 use Rattle.pack_model.specs.declared.network.Network.{Network}
 use Rattle.pack_model.specs.declared.signal.Signal.{Signal}
+use Rattle.matrix_text.specs.declared.matrix.MatrixRow.{MatrixRow}
 use Rattle.input_text.specs.SignalsText.{signals_of}
 use Rattle.canpack_top.specs.declared.line.Role.{Role}
 use Rattle.canpack_top.specs.declared.line.Role.TheVariants as role
@@ -41,6 +42,10 @@ free signals = if are_free signals then Ok signals else Err role.Signals
 -- the free signals of a text
 abbrev pub signals_in : List ℕ → Result (List Signal) Role
 signals_in text = unmarked role.Signals text >>= λ text. refused_as role.Signals (signals_of text) >>= free
+
+-- the rows of a text without headers and I-PDUs
+abbrev pub matrix_in : List ℕ → Result (List MatrixRow) Role
+matrix_in text = Err role.Matrix
 
 -- the certificate of kind `placed`
 abbrev pub placed_cert : List ℕ

@@ -1,5 +1,7 @@
 //! How a command ends.
+
 use crate::line::Role;
+use pack_model::Memory;
 
 /// What `check` finds of texts that stand.
 #[derive(Clone, Copy, Debug, PartialEq, Eq)]
@@ -19,4 +21,15 @@ pub enum Stop {
     Refused(Role),
     /// Want of memory.
     Memory,
+}
+
+impl From<Memory> for Stop {
+    ghost use Rattle.std.specs.Prelude.{◌≡◌};
+    ghost use Rattle.canpack_top.specs.declared.ending.Stop.TheVariants as stop;
+
+    ghost from_gives = { λ _ e. e ≡ stop.Memory };
+
+    fn from(_e: Memory) -> Stop {
+        Stop::Memory
+    }
 }

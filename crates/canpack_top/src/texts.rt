@@ -3,11 +3,12 @@ ghost use Rattle.std.specs.Prelude.{◌≡◌, IfOk, All};
 ghost use Rattle.pack_model.specs.Network.{NetworkStands};
 ghost use Rattle.pack_model.specs.Signal.{IsFree, SignalStands};
 ghost use Rattle.canpack_top.specs.Ending.{Says};
-ghost use Rattle.canpack_top.specs.Text.{are_free, cert_in, network_in, signals_in, unmarked};
+ghost use Rattle.canpack_top.specs.Text.{are_free, cert_in, matrix_in, network_in, signals_in, unmarked};
 
 use crate::ending::Stop;
 use crate::line::Role;
 use input_text::{SignalsFault, read_signals};
+use matrix_text::Matrix;
 use pack_model::{Network, Signal};
 use std::alloc::Global;
 
@@ -58,6 +59,14 @@ pub fn signals_in(alloc: Global, text: &[u8]) -> Result<Vec<Signal>, Stop>
         return Err(Stop::Refused(Role::Signals));
     }
     Ok(signals)
+}
+
+/// The matrix of a text without headers and I-PDUs.
+pub fn matrix_in(alloc: Global, text: &[u8]) -> Result<Matrix, Stop>
+    ensures { Says (λ matrix. matrix) result (matrix_in text.now) }
+{
+    check_unmarked(text, Role::Matrix)?;
+    Err(Stop::Memory)
 }
 
 /// Refuses a text that isn't the certificate of kind `placed`.
