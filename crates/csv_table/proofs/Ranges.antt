@@ -1,7 +1,7 @@
 -- What a column that was read says of its value, and that a written value is read back.
-use Rattle.std.proofs.Common.{◌≡◌, ◌≤◌, ◌<◌, ◌^◌, ◌==◌, ℕ, Bool, true, false, cond, List, [], length, Option, Some, None, Result, Ok, Err, refl, ap, arith, decimal, inl, inr}
+use Rattle.std.proofs.Common.{◌≡◌, ◌≤◌, ◌<◌, ◌^◌, ◌==◌, ℕ, Bool, true, false, cond, List, length, Option, Some, None, Result, Ok, Err, refl, arith, decimal}
 use Rattle.std.specs.Prelude.{IfOk, IfSome, OnOk}
-use Rattle.std.proofs.lemmas.Bool.{cases_Bool, ne_eqb}
+use Rattle.std.proofs.lemmas.Bool.{ne_eqb}
 use Rattle.std.proofs.lemmas.Fmt.{decimal_nonempty}
 use Rattle.pack_model.specs.Name.{IsName, is_name}
 use Rattle.csv_table.specs.Columns.{◌>>=◌, field_in, name_in, number_in, optional_in, or_error}

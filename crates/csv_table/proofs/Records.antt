@@ -1,6 +1,5 @@
 -- Laws on the records of a text: each leaves fewer bytes, and the machine between two records.
-use Rattle.std.proofs.Common.{◌≡◌, ◌≤◌, ◌<◌, ℕ, zero, suc, ◌+◌, ◌==◌, ◌||◌, ◌&&◌, Bool, true, false, not, cond, List, [], ◌∷◌, ◌++◌, length, map, Option, Some, None, refl, sym, ap, subst, arith, ◌∙◌, inl, inr}
-use Rattle.std.specs.Prelude.{◌⊎◌, if◌then◌else◌}
+use Rattle.std.proofs.Common.{◌≡◌, ◌≤◌, ◌<◌, ℕ, zero, suc, ◌+◌, ◌==◌, ◌||◌, Bool, true, false, not, cond, List, [], ◌∷◌, length, Option, Some, None, refl, sym, ap, subst, arith, ◌∙◌, inl, inr}
 use Rattle.std.proofs.lemmas.Bool.{cases_Bool}
 use Rattle.csv.specs.Machine.{Read, ends_at_end, field_after, fields_after, in_field, is_end, next_record, start_field, start_record, step}
 use Rattle.csv.specs.Reading.{default_config, records_from, records_next}
@@ -155,8 +154,7 @@ pub took : {R : Type 0} (rem : R → Option (List ℕ)) (a b : Reader R) (f : Li
 took rem a b f is_open read first flexible =
     let (bytes, known) = is_open.known in
     let (z, left, between, rows) = rows_after a.state b.state bytes (pending_of (rem b.rdr) b) f is_open.between (rw (is_open.config, known) at read.0) in
-    let source : source_of rem b ≡ Some z = rw read.1 left in
-    (
+    let source : source_of rem b ≡ Some z = rw read.1 left in (
       record {
         config = read.2 ∙ is_open.config;
         trim = read.3 ∙ is_open.trim;

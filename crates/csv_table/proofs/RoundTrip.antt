@@ -1,6 +1,5 @@
 -- What is written is read back, record by record.
-use Rattle.std.proofs.Common.{◌≡◌, ◌<◌, ℕ, ◌+◌, ◌==◌, add-one, drop, drop-cons, get_or, length, Bool, true, false, cond, List, [], ◌∷◌, ◌++◌, map, Some, refl, sym, ap, ◌∙◌, append_assoc, inl, inr}
-use Rattle.std.proofs.lemmas.Bool.{cases_Bool}
+use Rattle.std.proofs.Common.{◌≡◌, ◌<◌, ℕ, ◌+◌, ◌==◌, add-one, drop, drop-cons, get_or, length, Bool, true, false, cond, List, [], ◌∷◌, ◌++◌, map, Some, refl, sym, ap, ◌∙◌, append_assoc}
 use Rattle.csv.specs.Machine.{next_record}
 use Rattle.csv.specs.Reading.{records_from, strip_bom}
 use Rattle.csv.specs.Writing.{default_writer, fields_text, needs_quotes, quoted, read_back, row_text}
@@ -9,7 +8,7 @@ use Rattle.csv.proofs.RoundTrip.{read-write}
 use Rattle.csv_table.specs.Inside.{rows_from}
 use Rattle.csv_table.specs.Rows.{rows_of}
 use Rattle.csv_table.specs.Writing.{rows_text}
-use Rattle.csv_table.proofs.Records.{rows_first, rows_none}
+use Rattle.csv_table.proofs.Records.{rows_first}
 
 -- the records of written records
 rows_back : (rows : List (List (List ℕ))) → rows_from st.StartRecord (Some (rows_text rows)) ≡ map read_back rows
@@ -60,5 +59,5 @@ pub text_more : {A : Type 0} (f : A → List (List ℕ)) (xs : List A) (i : ℕ)
     → after ≡ before ++ row_text default_writer (f x) → before ++ rows_text (map f (drop i xs)) ≡ total → after ++ rows_text (map f (drop (i + 1) xs)) ≡ total
 text_more f xs i x before after total lt at step whole =
     let split : before ++ rows_text (map f (drop i xs)) ≡ before ++ (row_text default_writer (f x) ++ rows_text (map f (drop (i + 1) xs))) =
-      rw (add-one, drop-cons xs i x, ← at) refl in
+    rw (add-one, drop-cons xs i x, ← at) refl in
     ap (λ (t : List ℕ). t ++ rows_text (map f (drop (i + 1) xs))) step ∙ append_assoc before (row_text default_writer (f x)) _ ∙ sym split ∙ whole

@@ -1,2 +1,4 @@
 pub mod SignalRows
 pub mod SignalLaws
+pub mod NetworkLaws
+pub mod NetworkBack

@@ -1,11 +1,11 @@
 -- The laws of the text of signals: what is read stands, and what is written is read.
-use Rattle.std.proofs.Common.{◌≡◌, ◌≤◌, ◌<◌, ◌+◌, ◌==◌, ◌∷◌, ◌++◌, ℕ, zero, suc, Bool, true, false, cond, List, [], length, map, Option, Some, None, Result, Ok, Err, refl, sym, ap, ◌∙◌, arith, decimal, codes, inl, inr}
-use Rattle.std.specs.Prelude.{IfOk, IfSome, IsTrue, All, unwrap_or}
+use Rattle.std.proofs.Common.{◌≡◌, ◌≤◌, ◌<◌, ◌+◌, ◌==◌, ◌∷◌, ◌++◌, ℕ, Bool, true, false, cond, List, [], length, map, Option, Some, None, Result, Ok, Err, refl, ap, ◌∙◌, arith, decimal, codes, inl, inr}
+use Rattle.std.specs.Prelude.{IfOk, IfSome, All, unwrap_or}
 use Rattle.std.specs.List.{AllByRecursion}
 use Rattle.std.specs.Global.{Vec}
-use Rattle.std.proofs.lemmas.Bool.{cases_Bool, eqb-true, ne_eqb}
+use Rattle.std.proofs.lemmas.Bool.{cases_Bool, ne_eqb}
 use Rattle.std.proofs.lemmas.List.Elements.{All-from_recursion, All-weaker, recursion_from_All}
-use Rattle.pack_model.specs.Name.{IsName, is_name}
+use Rattle.pack_model.specs.Name.{IsName}
 use Rattle.pack_model.specs.Signal.{SignalStands}
 use Rattle.pack_model.specs.declared.signal.Signal.{Signal}
 use Rattle.csv_table.specs.Columns.{◌>>=◌, count_in, is_row, name_in, number_in, optional_in}
@@ -15,7 +15,7 @@ use Rattle.csv_table.proofs.RoundTrip.{map_read_back, rows_of-rows_text}
 use Rattle.csv_table.specs.Gives.{Gives}
 use Rattle.csv_table.specs.Writing.{optional_text}
 use Rattle.input_text.specs.declared.signals.SignalsFault.{SignalsFault}
-use Rattle.input_text.specs.SignalsText.{signals_refusal, SignalsRefusal, bad_header, bad_row, too_many, ReadsBack, in_row, signal_fields, signal_of, signals_from, signals_header, signals_in, signals_of, signals_text}
+use Rattle.input_text.specs.SignalsText.{signals_refusal, SignalsRefusal, bad_header, too_many, ReadsBack, in_row, signal_fields, signal_of, signals_from, signals_header, signals_in, signals_of, signals_text}
 
 -- a signal that stands, with its names
 pub record IsSignal (s : Signal) : Type 0 where
@@ -51,9 +51,12 @@ columns_stand (Ok c) (Ok n) (Ok s) (Ok p) (Ok b) (Ok t) (Ok d) (Ok j) hn hs hp h
     record {
       stands = record {
         pdu_low = pdu_low p hp;
-        bits_low = hb.above; bits_high = hb.below;
-        period_low = ht.above; period_high = ht.below;
-        deadline_low = deadline.above; deadline_high = deadline.below;
+        bits_low = hb.above;
+        bits_high = hb.below;
+        period_low = ht.above;
+        period_high = ht.below;
+        deadline_low = deadline.above;
+        deadline_high = deadline.below;
         jitter_high = jitter.below;
       };
       name = hn;
@@ -93,8 +96,8 @@ rows_stand : (n : ℕ) (rows : List (List (List ℕ))) → n ≤ 2050 → IfOk (
 rows_stand n [] le = record { each = tt; few = omega arith }
 rows_stand n (row ∷ rows) le =
     too_many_or n (n == 2050) _ (λ other.
-      let lt = not_last n le other in
-      one_more n (signal_of row) (signals_from (n + 1) rows) (signal_stands row) (rows_stand (n + 1) rows (omega arith)))
+    let lt = not_last n le other in
+    one_more n (signal_of row) (signals_from (n + 1) rows) (signal_stands row) (rows_stand (n + 1) rows (omega arith)))
 
 -- what is read stands, and is no more than 2048 signals
 pub signals_stand : (text : List ℕ) (signals : List Signal) → signals_of text ≡ Ok signals → All IsSignal signals × (length signals ≤ 2048)
@@ -105,9 +108,11 @@ signals_stand text signals e = by (rows_of text) e
         let same : xs ≡ signals = cc in
         rw (← same) (All-from_recursion IsSignal xs h.each, omega (arith, h.few))
     read (Err f) is h = absurd cc
+
     chosen : (b : Bool) (r : Result (List Signal) SignalsRefusal) → cond b r (Err bad_header) ≡ Ok signals → IfOk r (AreSignals 2) → All IsSignal signals × (length signals ≤ 2048)
     chosen true r is h = read r is h
     chosen false r is h = absurd cc
+
     by : (rows : List (List (List ℕ))) → signals_in rows ≡ Ok signals → All IsSignal signals × (length signals ≤ 2048)
     by [] is = absurd cc
     by (header ∷ rows) is = chosen (is_row header signals_header) (signals_from 2 rows) is (rows_stand 2 rows (omega arith))
@@ -125,11 +130,17 @@ signal_back s is pdu_high =
     let fields = signal_fields s in
     let stands = is.stands in
     let pdu = pdu_back s.pdu s.name s.sender (decimal s.bits) (decimal s.period_us) (decimal s.deadline_us) (decimal s.jitter_us) stands.pdu_low pdu_high in
-    record { signal = rw (name_back 1 s.name fields refl is.name, name_back 2 s.sender fields refl is.sender, pdu,
-    number_back 1 512 4 s.bits fields refl (omega arith) stands.bits_low stands.bits_high,
-    number_back 1 100000000 5 s.period_us fields refl (omega arith) stands.period_low stands.period_high,
-    optional_back 1 100000000 6 s.deadline_us fields refl (omega arith) stands.deadline_low stands.deadline_high,
-    optional_back 0 100000000 7 s.jitter_us fields refl (omega arith) (omega arith) stands.jitter_high) refl }
+    record {
+      signal = rw (
+        name_back 1 s.name fields refl is.name,
+        name_back 2 s.sender fields refl is.sender,
+        pdu,
+        number_back 1 512 4 s.bits fields refl (omega arith) stands.bits_low stands.bits_high,
+        number_back 1 100000000 5 s.period_us fields refl (omega arith) stands.period_low stands.period_high,
+        optional_back 1 100000000 6 s.deadline_us fields refl (omega arith) stands.deadline_low stands.deadline_high,
+        optional_back 0 100000000 7 s.jitter_us fields refl (omega arith) (omega arith) stands.jitter_high,
+      ) refl;
+    }
 
 rows_back : (n : ℕ) (signals : List Signal) → n + length signals ≤ 2050 → AllByRecursion ReadsBack signals → signals_from n (map signal_fields signals) ≡ Ok signals
 rows_back n [] few h = refl

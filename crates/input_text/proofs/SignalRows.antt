@@ -1,8 +1,7 @@
 -- Reading signals one row after the other, as a loop does.
-use Rattle.std.proofs.Common.{◌≡◌, ℕ, ◌+◌, ◌==◌, Bool, false, List, [], ◌∷◌, ◌++◌, Option, Some, None, Result, Ok, Err, refl, sym, ap, ◌∙◌, append_assoc}
+use Rattle.std.proofs.Common.{◌≡◌, ℕ, ◌+◌, ◌==◌, false, List, [], ◌∷◌, ◌++◌, Result, Ok, Err, refl, ap, append_assoc}
 use Rattle.pack_model.specs.declared.signal.Signal.{Signal}
 use Rattle.csv_table.specs.Columns.{◌>>=◌}
-use Rattle.csv_table.specs.Gives.{Explains}
 use Rattle.input_text.specs.SignalsText.{SignalsRefusal, in_row, signal_of, signals_from}
 
 -- what was read before, and what is still read

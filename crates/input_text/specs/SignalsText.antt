@@ -30,8 +30,13 @@ signal_of fields = do
   deadline ← optional_in 1 100000000 6 fields
   jitter ← optional_in 0 100000000 7 fields
   Ok (record {
-    name = name; sender = sender; pdu = pdu; bits = bits; period_us = period;
-    deadline_us = unwrap_or deadline period; jitter_us = unwrap_or jitter 0
+    name = name;
+    sender = sender;
+    pdu = pdu;
+    bits = bits;
+    period_us = period;
+    deadline_us = unwrap_or deadline period;
+    jitter_us = unwrap_or jitter 0;
   })
 
 -- a column that breaks its rule, in row n

@@ -4,6 +4,8 @@
 //! refusal, and that what is written reads back.
 #![tactic(auto)]
 
+mod network;
 mod signals;
 
+pub use network::{NetworkFault, read_network, write_network};
 pub use signals::{SignalsFault, read_signals, write_signals};

@@ -9,7 +9,9 @@ ghost use Rattle.input_text.specs.SignalsText.{ReadsBack, SignalsText, signal_fi
 ghost use Rattle.input_text.specs.declared.signals.SignalsFault.TheVariants as fault;
 
 use csv::ByteRecord;
-use csv_table::{ColumnFault, Rows, RowsWriter, count_at, has_fields, name_at, number_at, optional_at};
+use csv_table::{
+    ColumnFault, Rows, RowsWriter, count_at, has_fields, name_at, number_at, optional_at,
+};
 use pack_model::{Memory, Signal};
 use std::alloc::{AllocFailed, Global};
 use thiserror::Error;
@@ -101,7 +103,10 @@ fn read_signal_rows(
         }
         match read_signal(alloc, row) {
             Ok(signal) => signals.push(signal)?,
-            Err(ColumnFault::Column(column)) => return Err(SignalsFault::BadRow { row: number, column }),
+            Err(ColumnFault::Column(column)) => return Err(SignalsFault::BadRow {
+                row: number,
+                column,
+            }),
             Err(ColumnFault::Memory) => return Err(SignalsFault::Memory),
         }
     }

@@ -8,8 +8,7 @@ use Rattle.input_text.proofs.signals.write_signal_rows.Goals as goal
 pub loop-signal-preserved : goal.loop-signal-preserved
 loop-signal-preserved c =
     let inv = c.loop-signal.invariant in
-    let done = c.in_ok-write_signal.ensures in
-    (
+    let done = c.in_ok-write_signal.ensures in (
       done.row,
       text_more signal_fields c.args.signals.now c.loop-signal.signal-index c.signal-item.result c.loop-signal.out.text _ _ c.loop-signal-test.true c.signal-item.is done.text inv.1,
       All-more ReadsBack c.args.signals.now c.loop-signal.signal-index c.signal-item.result c.loop-signal-test.true inv.2 (subst ReadsBack c.signal-item.is done.reads_back),

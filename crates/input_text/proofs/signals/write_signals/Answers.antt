@@ -11,5 +11,5 @@ returns-clause-exact c =
 pub returns-clause-reads_back : goal.returns-clause-reads_back
 returns-clause-reads_back c =
     IfOk-weaker c.finish.result _ _ (λ v e.
-      ap signals_of (written v.items _ _ _ _ _ e c.in_ok-write_signal_rows.ensures.text c.in_ok-row.ensures.text c.new-out.ensures.text)
-      ∙ signals_back c.args.signals.now c.requires.few c.in_ok-write_signal_rows.ensures.reads_back) c.finish.ensures
+    ap signals_of (written v.items _ _ _ _ _ e c.in_ok-write_signal_rows.ensures.text c.in_ok-row.ensures.text c.new-out.ensures.text)
+    ∙ signals_back c.args.signals.now c.requires.few c.in_ok-write_signal_rows.ensures.reads_back) c.finish.ensures
