@@ -8,15 +8,15 @@ use Rattle.ipdu_layout.specs.Marks.{IsMarked, MarksPlace, MeetsMark}
 use Rattle.ipdu_layout.proofs.Places.{place_at, ApartBelow, ApartBelow-more, not_apart}
 
 -- the marks are those of the places below a number, which are apart
-pub record MarksBelow (places : List Place) (number : ℕ) (marks : List Bool) : Type 0 where
-  pub sized : length marks ≡ 512
+pub record MarksBelow (positions : ℕ) (places : List Place) (number : ℕ) (marks : List Bool) : Type 0 where
+  pub sized : length marks ≡ positions
   pub sound : (position : ℕ) → IsMarked marks position → (k : ℕ) × (k < number) × Takes (place_at places k) position
   pub complete : (k position : ℕ) → k < number → Takes (place_at places k) position → IsMarked marks position
   pub apart : ApartBelow places number
 
 -- one more place
-pub MarksBelow-more : (places : List Place) (number : ℕ) (old new : List Bool) → number < length places → length new ≡ length old → MarksBelow places number old → MarksPlace (place_at places number) old new → MarksBelow places (number + 1) new
-MarksBelow-more places number old new within same below here = record {
+pub MarksBelow-more : (positions : ℕ) (places : List Place) (number : ℕ) (old new : List Bool) → number < length places → length new ≡ length old → MarksBelow positions places number old → MarksPlace (place_at places number) old new → MarksBelow positions places (number + 1) new
+MarksBelow-more positions places number old new within same below here = record {
   sized = same ∙ below.sized;
   sound = λ position marked. sound_by position (here.only position marked);
   complete = λ k position before takes. complete_by k position takes (cases_lt k number) before;
@@ -35,19 +35,19 @@ MarksBelow-more places number old new within same below here = record {
       here.taken position (rw last at takes)
 
 -- a place that meets a mark is not apart from those before it
-pub not_apart_by_mark : (places : List Place) (number : ℕ) (marks : List Bool) → number < length places → MarksBelow places number marks → MeetsMark (place_at places number) marks → AllPairs IsApart places → ⊥
-not_apart_by_mark places number marks within below meets =
+pub not_apart_by_mark : (positions : ℕ) (places : List Place) (number : ℕ) (marks : List Bool) → number < length places → MarksBelow positions places number marks → MeetsMark (place_at places number) marks → AllPairs IsApart places → ⊥
+not_apart_by_mark positions places number marks within below meets =
     let found = below.sound meets.0 meets.2 in
     not_apart places found.0 number meets.0 found.1 within found.2 meets.1
 
 -- at first there is no mark
-pub MarksBelow-none : (places : List Place) → MarksBelow places 0 (replicate 512 false)
-MarksBelow-none places = record {
-  sized = length-replicate 512 false;
-  sound = λ position marked. absurd (false≢true (sym (unmarked position (cases_lt position 512)) ∙ marked));
+pub MarksBelow-none : (positions : ℕ) (places : List Place) → MarksBelow positions places 0 (replicate positions false)
+MarksBelow-none positions places = record {
+  sized = length-replicate positions false;
+  sound = λ position marked. absurd (false≢true (sym (unmarked position (cases_lt position positions)) ∙ marked));
   complete = λ k position before takes. absurd (omega arith);
   apart = λ i j d before below. absurd (omega arith);
 } where
-  unmarked : (position : ℕ) → (position < 512) ⊎ (512 ≤ position) → slice_index_or (replicate 512 false) position false ≡ false
-  unmarked position (inl h) = get_or-replicate 512 position false false h
-  unmarked position (inr h) = get_or_past (replicate 512 false) position false (omega (arith, length-replicate 512 false))
+  unmarked : (position : ℕ) → (position < positions) ⊎ (positions ≤ position) → slice_index_or (replicate positions false) position false ≡ false
+  unmarked position (inl h) = get_or-replicate positions position false false h
+  unmarked position (inr h) = get_or_past (replicate positions false) position false (omega (arith, length-replicate positions false))

@@ -9,6 +9,7 @@ mod marks;
 mod place;
 mod sequence;
 
+pub use marks::mark;
 pub use place::{Place, places_stand};
 pub use sequence::{MAX_BITS, MAX_SIGNALS, lay};
 

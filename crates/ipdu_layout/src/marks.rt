@@ -23,7 +23,7 @@ pub fn stand_by_marks(places: &[Place]) -> bool
 }
 
 /// Marks the positions of a place, unless one is marked already.
-fn mark(marks: &mut [bool], place: Place) -> bool
+pub fn mark(marks: &mut [bool], place: Place) -> bool
     requires { place.start + place.bits ≤ length marks.old }
     ensures { MatchBool result (MarksPlace place marks.old marks.new) (MeetsMark place marks.old) }
 {

@@ -1,1 +1,4 @@
+pub mod Frames
+pub mod OnePlace
+pub mod Placed
 pub mod Row

@@ -1,3 +1,4 @@
 pub mod BySender
 pub mod Distinct
+pub mod Laws
 pub mod Steps

@@ -1,6 +1,7 @@
 -- The problem of a network and its signals. Items stand for AUTOSAR COM's I-PDUs with fixed layout; limits are the project's own.
 use Rattle.std.specs.Prelude.{ℕ, ◌+◌, not, ◌==◌, nat_lt, List, [], ◌∷◌, ◌++◌, length, map, filter, Option, None, Some, Result, Ok, Err, if◌then◌else◌, ◌≡◌, All, ⊤}
 use Rattle.std.specs.List.{list_any, enumerate_from, flat_map, range_with_len, position_or_len}
+use Rattle.std.specs.List.Sorted.{IsPermutation}
 use Rattle.std.specs.Str.{bytes_eq}
 use Rattle.pack_model.specs.declared.network.Network.{Network}
 use Rattle.pack_model.specs.declared.signal.Signal.{Signal}
@@ -88,3 +89,7 @@ pub record IsProblem (p : Parts) : Type 0 where
   pub signals : All SignalStands p.signals
   pub free : All IsFree p.signals
   pub stands : problem_of p.network p.signals ≡ Ok p
+
+-- the items are those of the list, in another order
+abbrev pub IsSorted : List Signal → List Item → Type 0
+IsSorted signals items = IsPermutation (items_in_order signals) items

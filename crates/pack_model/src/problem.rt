@@ -1,10 +1,11 @@
 //! The problem of a network and its signals.
 ghost use Rattle.std.specs.Prelude.{◌≡◌, ◌≤◌, ◌<◌, ◌⊎◌, ℕ, [], All, length, IsTrue, IfOk, IfErr, OnOk, None, position};
 ghost use Rattle.std.specs.List.{list_any, position_or_len};
+ghost use Rattle.std.specs.List.Sorted.{IsPermutation};
 ghost use Rattle.std.specs.Str.{bytes_eq};
 ghost use Rattle.pack_model.specs.Network.{NetworkStands};
 ghost use Rattle.pack_model.specs.Signal.{SignalStands, IsFree};
-ghost use Rattle.pack_model.specs.Problem.{Answers, IsProblem, IsRepeat, problem_of, names_of, senders_of, items_in_order, items_of, by_sender, first_repeat};
+ghost use Rattle.pack_model.specs.Problem.{Answers, IsProblem, IsRepeat, IsSorted, problem_of, names_of, senders_of, items_in_order, items_of, by_sender, first_repeat};
 ghost use Rattle.pack_model.specs.declared.problem.ProblemFault.TheVariants.{Memory as memory};
 
 use crate::item::Item;
@@ -81,9 +82,9 @@ impl Model for Problem {
     ghost view = { λ a. record { network = a.network; signals = a.signals.items; items = a.items.items; senders = a.senders.keys } };
 
     ghost use Rattle.std.specs.Prelude.{◌≡◌};
-    ghost use Rattle.pack_model.specs.Problem.{names_of, IsProblem};
+    ghost use Rattle.pack_model.specs.Problem.{names_of, IsProblem, IsSorted};
 
-    ghost invariant = { λ a. (a.names.keys ≡ names_of a.signals.items) × IsProblem (record { network = a.network; signals = a.signals.items; items = a.items.items; senders = a.senders.keys }) };
+    ghost invariant = { λ a. (a.names.keys ≡ names_of a.signals.items) × IsSorted a.signals.items a.items.items × IsProblem (record { network = a.network; signals = a.signals.items; items = a.items.items; senders = a.senders.keys }) };
 }
 
 impl Problem {
@@ -106,6 +107,7 @@ impl Problem {
     /// The items, by sender and then by the list place of their first signal.
     pub fn items(&self) -> &[Item]
         ensures items { result.now ≡ self.now.items }
+        ensures sorted { IsSorted self.now.signals self.now.items }
         ensures problem { IsProblem self.now }
     {
         self.items.as_slice()
@@ -194,7 +196,8 @@ fn sorted_items(
 ) -> Result<Vec<Item>, Memory>
     requires few { length signals.now ≤ 2048 }
     requires senders { senders.now.keys ≡ senders_of signals.now }
-    ensures { IfOk result (λ items. items.items ≡ items_of signals.now) }
+    ensures items { IfOk result (λ items. items.items ≡ items_of signals.now) }
+    ensures sorted { IfOk result (λ items. IsSorted signals.now items.items) }
 {
     let mut items = items_in_order(alloc, signals, senders)?;
     sort_by_sender(&mut items)?;
@@ -240,7 +243,8 @@ fn sender_number(senders: &IndexSet<Name>, sender: &Name) -> u32
 
 /// Puts the items in order of their senders' numbers; those of one sender stay in order.
 fn sort_by_sender(items: &mut Vec<Item>) -> Result<(), Memory>
-    ensures { OnOk result ((senders : ℕ) → All (λ item. item.sender < senders) items.old.items → items.new.items ≡ by_sender senders items.old.items) }
+    ensures order { OnOk result ((senders : ℕ) → All (λ item. item.sender < senders) items.old.items → items.new.items ≡ by_sender senders items.old.items) }
+    ensures same { IsPermutation items.old.items items.new.items }
 {
     items.sort_by_key(|item| item.sender)?;
     Ok(())
