@@ -6,6 +6,7 @@ use Rattle.csv_table.specs.Columns.{◌>>=◌}
 use Rattle.pack_model.specs.declared.network.Network.{Network}
 use Rattle.pack_model.specs.declared.signal.Signal.{Signal}
 use Rattle.matrix_text.specs.declared.matrix.MatrixRow.{MatrixRow}
+use Rattle.input_text.specs.NetworkText.{network_of}
 use Rattle.input_text.specs.SignalsText.{signals_of}
 use Rattle.canpack_top.specs.declared.line.Role.{Role}
 use Rattle.canpack_top.specs.declared.line.Role.TheVariants as role
@@ -29,7 +30,7 @@ unmarked part text = if has_mark text then Err part else Ok text
 
 -- the network of a text
 abbrev pub network_in : List ℕ → Result Network Role
-network_in text = Err role.Network
+network_in text = unmarked role.Network text >>= λ text. refused_as role.Network (network_of text)
 
 -- no signal is in an I-PDU
 abbrev pub are_free : List Signal → Bool

@@ -7,7 +7,7 @@ ghost use Rattle.canpack_top.specs.Text.{are_free, cert_in, matrix_in, network_i
 
 use crate::ending::Stop;
 use crate::line::Role;
-use input_text::{SignalsFault, read_signals};
+use input_text::{NetworkFault, SignalsFault, read_network, read_signals};
 use matrix_text::Matrix;
 use pack_model::{Network, Signal};
 use std::alloc::Global;
@@ -40,7 +40,11 @@ pub fn network_in(alloc: Global, text: &[u8]) -> Result<Network, Stop>
     ensures stands { IfOk result NetworkStands }
 {
     check_unmarked(text, Role::Network)?;
-    Err(Stop::Memory)
+    match read_network(alloc, text) {
+        Ok(network) => Ok(network),
+        Err(NetworkFault::Memory) => Err(Stop::Memory),
+        Err(_) => Err(Stop::Refused(Role::Network)),
+    }
 }
 
 /// The free signals of a text.
