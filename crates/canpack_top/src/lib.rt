@@ -10,8 +10,10 @@ mod ending;
 mod line;
 mod problem;
 mod reading;
+mod steady;
 mod texts;
 mod top;
 
 pub use command::{Command, Names, command_of};
+pub use steady::canpack_steady;
 pub use top::canpack;
