@@ -26,11 +26,7 @@ fn is_placed(alloc: Global, problem: &Problem, matrix: &Matrix) -> Result<bool, 
 }
 
 /// Reads the four files, and judges the matrix.
-pub fn check<F: Folder>(
-    alloc: Global,
-    folder: &mut F,
-    names: Names<'_>,
-) -> Result<Verdict, Stop>
+pub fn check<F: Folder>(alloc: Global, folder: &mut F, names: Names<'_>) -> Result<Verdict, Stop>
     ensures exact { IsSome (F.files folder.old) → IsVerdict result (names_of names.entry) (F.files folder.old) }
     ensures read_fault { IsErrOf result Stop.ReadFault
         → CheckFaults (names_of names.entry) (F.read_faults folder.old) (F.read_faults folder.new) }

@@ -13,6 +13,7 @@ mod reading;
 mod steady;
 mod texts;
 mod top;
+mod writing;
 
 pub use command::{Command, Names, command_of};
 pub use steady::canpack_steady;
