@@ -4,6 +4,9 @@
 //! is placed, with the grouping and the order of its frames.
 #![tactic(auto)]
 
+mod checks;
 mod matrix;
+mod overlap;
+mod signal_rows;
 
 pub use matrix::{Header, Matrix, MatrixRow};

@@ -88,7 +88,7 @@ members_in_order signals =
 pub members : (signals : List Signal) (items : List Item) → IsSorted signals items → All (λ item. (m : ℕ) × (item.members ≡ m ∷ []) × (m < length signals)) items
 members signals items sorted = All-permutation (λ (item : Item). (m : ℕ) × (item.members ≡ m ∷ []) × (m < length signals)) (items_in_order signals) items sorted (members_in_order signals)
 
-element : {X : Type 0} (xs : List X) (i : ℕ) → i < length xs → (x : X) × (x ≡ get_or xs i x)
+pub element : {X : Type 0} (xs : List X) (i : ℕ) → i < length xs → (x : X) × (x ≡ get_or xs i x)
 element [] i lt = absurd (omega arith)
 element (x ∷ xs) zero lt = (x, refl)
 element (x ∷ xs) (suc k) lt = element xs k (omega arith)

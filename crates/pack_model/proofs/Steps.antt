@@ -101,7 +101,7 @@ pub few_senders : (signals : List Signal) → length (senders_of signals) ≤ le
 few_senders signals = omega (arith, length-distinct (map (λ (t : Signal). t.sender) signals), length-map signals (λ (t : Signal). t.sender))
 
 -- what passes the test somewhere has a first place
-first_place : {X : Type 0} (p : X → Bool) (xs : List X) → list_any p xs ≡ true → position_or_len p xs < length xs
+pub first_place : {X : Type 0} (p : X → Bool) (xs : List X) → list_any p xs ≡ true → position_or_len p xs < length xs
 first_place p [] h = absurd (true≢false (sym h))
 first_place p (x ∷ xs) h = by (p x) refl (first_place p xs)
   where

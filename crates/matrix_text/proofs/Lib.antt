@@ -1,0 +1,5 @@
+pub mod ApartLaws
+pub mod Bits
+pub mod Counts
+pub mod FirstRows
+pub mod RowsFound
