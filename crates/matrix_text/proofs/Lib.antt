@@ -3,3 +3,4 @@ pub mod Bits
 pub mod Counts
 pub mod FirstRows
 pub mod RowsFound
+pub mod TextLaws

@@ -1,4 +1,5 @@
 pub mod Frames
+pub mod MatrixText
 pub mod OnePlace
 pub mod Placed
 pub mod Row

@@ -8,5 +8,7 @@ mod checks;
 mod matrix;
 mod overlap;
 mod signal_rows;
+mod text;
 
 pub use matrix::{Header, Matrix, MatrixRow};
+pub use text::{MatrixFault, read_matrix, write_matrix};
