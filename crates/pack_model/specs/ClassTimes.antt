@@ -1,7 +1,6 @@
 -- The times of a class as a frame. How the times of its signals are merged is the project's own; the size and the ticks of its bytes are those of ISO 11898-1.
 use Rattle.std.specs.Prelude.{ℕ, ◌*◌, min, max, List, [], ◌∷◌, map, fold, slice_get}
 use Rattle.std.specs.List.{filter_map, flat_map}
-use Rattle.pack_model.specs.declared.item.Item.{Item}
 use Rattle.pack_model.specs.declared.signal.Signal.{Signal}
 use Rattle.pack_model.specs.Problem.{Parts}
 use Rattle.pack_model.specs.Grouping.{class_of}
