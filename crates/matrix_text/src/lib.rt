@@ -5,10 +5,13 @@
 #![tactic(auto)]
 
 mod checks;
+mod frames;
+mod labels;
 mod matrix;
 mod overlap;
 mod signal_rows;
 mod text;
 
+pub use labels::labels_of;
 pub use matrix::{Header, Matrix, MatrixRow};
 pub use text::{MatrixFault, read_matrix, write_matrix};
