@@ -1,5 +1,5 @@
 -- A folder that is read twice.
-use Rattle.std.proofs.Common.{ℕ, ◌≤◌, List, ◌∙◌, arith}
+use Rattle.std.proofs.Common.{ℕ, List, ◌∙◌}
 use Rattle.pack_base.specs.Outside.{Files}
 use Rattle.canpack_top.specs.Reads.{ReadsOnly}
 use Rattle.pack_base.proofs.WholeFile.{later_trans}

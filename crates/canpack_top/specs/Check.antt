@@ -6,6 +6,7 @@ use Rattle.pack_model.specs.declared.network.Network.{Network}
 use Rattle.pack_model.specs.declared.signal.Signal.{Signal}
 use Rattle.pack_model.specs.Problem.{Parts, problem_of}
 use Rattle.matrix_text.specs.declared.matrix.MatrixRow.{MatrixRow}
+use Rattle.matrix_text.specs.OnePlace.{OnePlace}
 use Rattle.matrix_text.specs.Placed.{Placed}
 use Rattle.canpack_top.specs.declared.line.Role.{Role}
 use Rattle.canpack_top.specs.declared.line.Role.TheVariants as role
@@ -67,6 +68,10 @@ texts_at names files = do
 -- the texts stand and the matrix is placed
 abbrev pub Accepts : Names → Files → Type 0
 Accepts names files = IsOkAnd (texts_at names files) (λ judged. Placed judged.problem judged.matrix)
+
+-- the texts stand and each signal has one place of its own
+abbrev pub HasOnePlace : Names → Files → Type 0
+HasOnePlace names files = IsOkAnd (texts_at names files) (λ judged. OnePlace judged.problem judged.matrix)
 
 -- the texts stand and the matrix isn't placed
 abbrev pub Rejects : Names → Files → Type 0
