@@ -2,7 +2,7 @@
 use Rattle.std.specs.Prelude.{◌≡◌, ◌⊎◌, ℕ, List, Option, IsNone, IsSome, IsSomeAnd, String}
 use Rattle.std.specs.declared.alloc.Global.{Global}
 use Rattle.pack_base.specs.Outside.{Files, SaidPart}
-use Rattle.canpack_top.specs.Check.{Accepts, Rejects, Refuses}
+use Rattle.canpack_top.specs.Check.{Accepts, HasOnePlace, Rejects, Refuses}
 use Rattle.canpack_top.specs.Command.{Command, command_of, check}
 use Rattle.canpack_top.specs.Line.{placed_line, refused_line, rejected_matrix_line, usage_line}
 use Rattle.canpack_top.specs.Reads.{CheckFaults}
@@ -19,6 +19,10 @@ ReadFaultsRose before now (check names) = CheckFaults names before now
 -- the files are accepted, rejected, or refused for the one in this part
 abbrev pub Accepted : Files → Command → Type 0
 Accepted files (check names) = Accepts names files
+
+-- in the accepted matrix each signal has one place of its own
+abbrev pub OnePlaceEach : Files → Command → Type 0
+OnePlaceEach files (check names) = HasOnePlace names files
 
 abbrev pub Rejected : Files → Command → Type 0
 Rejected files (check names) = Rejects names files
