@@ -4,6 +4,8 @@
 #[cfg(test)]
 mod hostile;
 #[cfg(test)]
+mod matrices;
+#[cfg(test)]
 mod runs;
 #[cfg(test)]
 mod texts;

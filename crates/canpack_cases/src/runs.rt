@@ -7,13 +7,23 @@ use std::thread::Threads;
 pub const NAMES: [&str; 4] = ["network.json", "signals.csv", "matrix.csv", "cert.txt"];
 
 /// The words of `check` over these files.
-pub const CHECK: [&str; 6] = ["check", "network.json", "signals.csv", "matrix.csv", "cert.txt", "1"];
+pub const CHECK: [&str; 6] = [
+    "check",
+    "network.json",
+    "signals.csv",
+    "matrix.csv",
+    "cert.txt",
+    "1",
+];
 
-pub const NETWORK: &[u8] = b"{\"version\":1,\"ticks_per_us\":80,\"nominal_ticks\":160,\"data_ticks\":40,\"first_id\":256}\n";
+pub const NETWORK: &[u8] =
+    b"{\"version\":1,\"ticks_per_us\":80,\"nominal_ticks\":160,\"data_ticks\":40,\"first_id\":256}\n";
 
-pub const SIGNALS: &[u8] = b"signal,sender,pdu,bits,period_us,deadline_us,jitter_us\nS1,ECU1,,8,10000,10000,0\nS2,ECU1,,8,10000,10000,0\n";
+pub const SIGNALS: &[u8] =
+    b"signal,sender,pdu,bits,period_us,deadline_us,jitter_us\nS1,ECU1,,8,10000,10000,0\nS2,ECU1,,8,10000,10000,0\n";
 
-pub const MATRIX: &[u8] = b"id,sender,size,ticks,header,pdu,at,signal,start,bits\n256,ECU1,2,7400,none,,0,S1,0,8\n256,ECU1,2,7400,none,,0,S2,8,8\n";
+pub const MATRIX: &[u8] =
+    b"id,sender,size,ticks,header,pdu,at,signal,start,bits\n256,ECU1,2,7400,none,,0,S1,0,8\n256,ECU1,2,7400,none,,0,S2,8,8\n";
 
 pub const CERT: &[u8] = b"canpack certificate 1\nkind placed\nend\n";
 

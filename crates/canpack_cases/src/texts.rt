@@ -8,28 +8,108 @@ use std::test::Fail;
 const TEXTS: [(usize, &[u8], u8, &[u8]); 19] = [
     (0, NETWORK, 0, b"placed\n"),
     // The second signal begins in the last bit of the first.
-    (2, b"id,sender,size,ticks,header,pdu,at,signal,start,bits\n256,ECU1,2,7400,none,,0,S1,0,8\n256,ECU1,2,7400,none,,0,S2,7,8\n", 5, b"rejected matrix\n"),
+    (
+        2,
+        b"id,sender,size,ticks,header,pdu,at,signal,start,bits\n256,ECU1,2,7400,none,,0,S1,0,8\n256,ECU1,2,7400,none,,0,S2,7,8\n",
+        5,
+        b"rejected matrix\n",
+    ),
     // Each signal in a frame of its own.
-    (2, b"id,sender,size,ticks,header,pdu,at,signal,start,bits\n257,ECU1,1,7000,none,,0,S1,0,8\n256,ECU1,1,7000,none,,0,S2,0,8\n", 0, b"placed\n"),
+    (
+        2,
+        b"id,sender,size,ticks,header,pdu,at,signal,start,bits\n257,ECU1,1,7000,none,,0,S1,0,8\n256,ECU1,1,7000,none,,0,S2,0,8\n",
+        0,
+        b"placed\n",
+    ),
     // A size one step too large, ticks of another size, a signal without a row, and one of another sender.
-    (2, b"id,sender,size,ticks,header,pdu,at,signal,start,bits\n256,ECU1,3,7800,none,,0,S1,0,8\n256,ECU1,3,7800,none,,0,S2,8,8\n", 5, b"rejected matrix\n"),
-    (2, b"id,sender,size,ticks,header,pdu,at,signal,start,bits\n256,ECU1,2,7800,none,,0,S1,0,8\n256,ECU1,2,7800,none,,0,S2,8,8\n", 5, b"rejected matrix\n"),
-    (2, b"id,sender,size,ticks,header,pdu,at,signal,start,bits\n256,ECU1,1,7000,none,,0,S1,0,8\n", 5, b"rejected matrix\n"),
-    (2, b"id,sender,size,ticks,header,pdu,at,signal,start,bits\n256,ECU2,2,7400,none,,0,S1,0,8\n256,ECU2,2,7400,none,,0,S2,8,8\n", 5, b"rejected matrix\n"),
+    (
+        2,
+        b"id,sender,size,ticks,header,pdu,at,signal,start,bits\n256,ECU1,3,7800,none,,0,S1,0,8\n256,ECU1,3,7800,none,,0,S2,8,8\n",
+        5,
+        b"rejected matrix\n",
+    ),
+    (
+        2,
+        b"id,sender,size,ticks,header,pdu,at,signal,start,bits\n256,ECU1,2,7800,none,,0,S1,0,8\n256,ECU1,2,7800,none,,0,S2,8,8\n",
+        5,
+        b"rejected matrix\n",
+    ),
+    (
+        2,
+        b"id,sender,size,ticks,header,pdu,at,signal,start,bits\n256,ECU1,1,7000,none,,0,S1,0,8\n",
+        5,
+        b"rejected matrix\n",
+    ),
+    (
+        2,
+        b"id,sender,size,ticks,header,pdu,at,signal,start,bits\n256,ECU2,2,7400,none,,0,S1,0,8\n256,ECU2,2,7400,none,,0,S2,8,8\n",
+        5,
+        b"rejected matrix\n",
+    ),
     // Containers, I-PDUs and identifiers of the wrong range.
-    (2, b"id,sender,size,ticks,header,pdu,at,signal,start,bits\n256,ECU1,2,7400,short,,0,S1,0,8\n256,ECU1,2,7400,none,,0,S2,8,8\n", 4, b"refused MATRIX\n"),
-    (2, b"id,sender,size,ticks,header,pdu,at,signal,start,bits\n256,ECU1,2,7400,none,1,0,S1,0,8\n256,ECU1,2,7400,none,,0,S2,8,8\n", 4, b"refused MATRIX\n"),
-    (2, b"id,sender,size,ticks,header,pdu,at,signal,start,bits\n2048,ECU1,2,7400,none,,0,S1,0,8\n2048,ECU1,2,7400,none,,0,S2,8,8\n", 4, b"refused MATRIX\n"),
+    (
+        2,
+        b"id,sender,size,ticks,header,pdu,at,signal,start,bits\n256,ECU1,2,7400,short,,0,S1,0,8\n256,ECU1,2,7400,none,,0,S2,8,8\n",
+        4,
+        b"refused MATRIX\n",
+    ),
+    (
+        2,
+        b"id,sender,size,ticks,header,pdu,at,signal,start,bits\n256,ECU1,2,7400,none,1,0,S1,0,8\n256,ECU1,2,7400,none,,0,S2,8,8\n",
+        4,
+        b"refused MATRIX\n",
+    ),
+    (
+        2,
+        b"id,sender,size,ticks,header,pdu,at,signal,start,bits\n2048,ECU1,2,7400,none,,0,S1,0,8\n2048,ECU1,2,7400,none,,0,S2,8,8\n",
+        4,
+        b"refused MATRIX\n",
+    ),
     (2, b"", 4, b"refused MATRIX\n"),
     // A signal in an I-PDU, one named twice, and none.
-    (1, b"signal,sender,pdu,bits,period_us,deadline_us,jitter_us\nS1,ECU1,1,8,10000,10000,0\nS2,ECU1,,8,10000,10000,0\n", 4, b"refused SIGNALS\n"),
-    (1, b"signal,sender,pdu,bits,period_us,deadline_us,jitter_us\nS1,ECU1,,8,10000,10000,0\nS1,ECU1,,8,10000,10000,0\n", 4, b"refused SIGNALS\n"),
-    (1, b"signal,sender,pdu,bits,period_us,deadline_us,jitter_us\n", 4, b"refused SIGNALS\n"),
+    (
+        1,
+        b"signal,sender,pdu,bits,period_us,deadline_us,jitter_us\nS1,ECU1,1,8,10000,10000,0\nS2,ECU1,,8,10000,10000,0\n",
+        4,
+        b"refused SIGNALS\n",
+    ),
+    (
+        1,
+        b"signal,sender,pdu,bits,period_us,deadline_us,jitter_us\nS1,ECU1,,8,10000,10000,0\nS1,ECU1,,8,10000,10000,0\n",
+        4,
+        b"refused SIGNALS\n",
+    ),
+    (
+        1,
+        b"signal,sender,pdu,bits,period_us,deadline_us,jitter_us\n",
+        4,
+        b"refused SIGNALS\n",
+    ),
     // The deadline and the jitter as they are taken where they are empty.
-    (1, b"signal,sender,pdu,bits,period_us,deadline_us,jitter_us\nS1,ECU1,,8,10000,,\nS2,ECU1,,8,10000,,0\n", 0, b"placed\n"),
-    (3, b"canpack certificate 1\nkind timed\nend\n", 4, b"refused CERT\n"),
-    (3, b"canpack certificate 1\nkind placed\nend", 4, b"refused CERT\n"),
-    (3, b"canpack certificate 1\nkind placed\nend\n\n", 4, b"refused CERT\n"),
+    (
+        1,
+        b"signal,sender,pdu,bits,period_us,deadline_us,jitter_us\nS1,ECU1,,8,10000,,\nS2,ECU1,,8,10000,,0\n",
+        0,
+        b"placed\n",
+    ),
+    (
+        3,
+        b"canpack certificate 1\nkind timed\nend\n",
+        4,
+        b"refused CERT\n",
+    ),
+    (
+        3,
+        b"canpack certificate 1\nkind placed\nend",
+        4,
+        b"refused CERT\n",
+    ),
+    (
+        3,
+        b"canpack certificate 1\nkind placed\nend\n\n",
+        4,
+        b"refused CERT\n",
+    ),
     (3, b"", 4, b"refused CERT\n"),
 ];
 
@@ -58,6 +138,9 @@ fn a_folder_that_never_fails(rt: HostRuntime) -> Result<(), Fail> {
         words.push(String::from_str(rt.alloc(), word)?)?;
     }
     let alloc = rt.alloc();
-    assert_eq!(rt; canpack(&rt, alloc, &words, &mut folder, &mut NullSink, &OpenGate), 0);
+    assert_eq!(rt;
+        canpack(&rt, alloc, &words, &mut folder, &mut NullSink, &OpenGate),
+        0
+    );
     Ok(())
 }

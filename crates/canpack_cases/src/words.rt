@@ -3,7 +3,8 @@ use crate::runs::{CHECK, NAMES, TWO_SIGNALS, folder_of, status_of};
 use pack_base::{MemFolder, MemSink};
 use std::test::Fail;
 
-const USAGE: &[u8] = b"usage: plan NETWORK SIGNALS MATRIX CERT BRANCHES WORKERS | check NETWORK SIGNALS MATRIX CERT WORKERS | make NUMBER [NETWORK SIGNALS]\n";
+const USAGE: &[u8] =
+    b"usage: plan NETWORK SIGNALS MATRIX CERT BRANCHES WORKERS | check NETWORK SIGNALS MATRIX CERT WORKERS | make NUMBER [NETWORK SIGNALS]\n";
 
 /// Words that are the line of no command.
 const WRONG: [&[&str]; 11] = [
