@@ -1,14 +1,22 @@
 // Each fake once, the reading of a whole file, and the real folder on a real file.
 use super::*;
+use std::alloc::{AllocError, Global};
 use std::fs;
 use std::test::Fail;
+
+fn holds(folder: &MemFolder, name: &str, bytes: &[u8]) -> bool {
+    match folder.get(name) {
+        Some(held) => held == bytes,
+        None => false,
+    }
+}
 
 #[test]
 fn files_in_memory(rt: HostRuntime) -> Result<(), Fail> {
     let mut folder = MemFolder::new(rt.alloc());
     folder.put("n", b"abc").map_err(|_| "memory")?;
     folder.fail_at(3).map_err(|_| "memory")?;
-    assert_eq!(rt; folder.get("n"), Some(b"abc".as_slice()));
+    assert!(rt; holds(&folder, "n", b"abc"));
     assert!(rt; folder.get("m").is_none());
     let mut piece = [0u8; 2];
     assert_eq!(rt; folder.read_at("n", 1, &mut piece), Ok(2));
@@ -16,31 +24,44 @@ fn files_in_memory(rt: HostRuntime) -> Result<(), Fail> {
     assert_eq!(rt; folder.append("n", b"de"), Ok(()));
     assert_eq!(rt; folder.append("n", b"fg"), Err(Failed), "the third call");
     assert_eq!(rt; folder.append("n", b"h"), Ok(()));
-    assert_eq!(rt; folder.get("n"), Some(b"abcdeh".as_slice()));
+    assert!(rt; holds(&folder, "n", b"abcdeh"));
     assert_eq!(rt; folder.create("n"), Ok(()));
     assert_eq!(rt; folder.append("m", b"x"), Ok(()));
-    assert_eq!(rt; folder.get("n"), Some(b"".as_slice()));
-    assert_eq!(rt; folder.get("m"), Some(b"x".as_slice()));
+    assert!(rt; holds(&folder, "n", b""));
+    assert!(rt; holds(&folder, "m", b"x"));
     assert_eq!(rt; folder.read_at("none", 0, &mut piece), Err(Failed));
     assert_eq!(rt; folder.refused(), 0);
     Ok(())
+}
+
+fn sevens(alloc: Global, count: usize) -> Result<Vec<u8>, AllocError> {
+    vec![in alloc; 7u8; count]
+}
+
+fn read_up_to(
+    alloc: Global,
+    folder: &mut MemFolder,
+    name: &str,
+    limit: u32,
+) -> Result<Vec<u8>, ReadWhole> {
+    read_whole(alloc, folder, name, u64::from(limit))
 }
 
 #[test]
 fn whole_files(rt: HostRuntime) -> Result<(), Fail> {
     let alloc = rt.alloc();
     let mut folder = MemFolder::new(alloc);
-    let text = vec![in alloc; 7u8; 70000]?;
+    let text = sevens(alloc, 70000)?;
     folder.put("n", &text).map_err(|_| "memory")?;
     folder.fail_at(9).map_err(|_| "memory")?;
     for (limit, size) in [(70000, Some(70000)), (100000, Some(70000)), (69999, None)] {
-        match read_whole(alloc, &mut folder, "n", limit) {
+        match read_up_to(alloc, &mut folder, "n", limit) {
             Ok(read) => assert_eq!(rt; Some(read.len()), size, "at {limit}"),
             Err(e) => assert!(rt; size.is_none() && e == ReadWhole::TooLarge, "at {limit}"),
         }
     }
     for (name, want) in [("n", ReadWhole::ReadFault), ("m", ReadWhole::ReadFault)] {
-        match read_whole(alloc, &mut folder, name, 70000) {
+        match read_up_to(alloc, &mut folder, name, 70000) {
             Ok(_) => assert!(rt; false, "the second read fails, and there is no m"),
             Err(e) => assert_eq!(rt; e, want),
         }
