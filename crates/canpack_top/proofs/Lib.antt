@@ -1,2 +1,3 @@
 pub mod Said
 pub mod Fronts
+pub mod Planned
