@@ -3,10 +3,9 @@
 
 use canpack_top::canpack;
 use pack_base::{OpenGate, RealFolder, RealOut};
-use std::env;
-use std::io;
 use std::process::ExitCode;
 use std::rt::Env;
+use std::{env, io};
 
 /// The words after the program's name.
 fn words_of<R: Env + AllocGlobal>(rt: &R) -> io::Result<Vec<String>> {

@@ -1,8 +1,8 @@
 -- Fronts of texts in files.
-use Rattle.std.proofs.Common.{◌≡◌, ◌≢◌, List, ℕ, length, Some, IsSome, sym, ◌∙◌, ap, inl, inr}
+use Rattle.std.proofs.Common.{◌≡◌, ◌≢◌, List, ℕ, length, Some, sym, ◌∙◌, ap, inr}
 use Rattle.std.specs.Prelude.{Option}
 use Rattle.std.proofs.Math.Seq.{take-length}
-use Rattle.pack_base.specs.Outside.{Changes, Files, Holds, file_at}
+use Rattle.pack_base.specs.Outside.{Changes, Files, Holds}
 use Rattle.canpack_top.specs.Write.{HoldsFront, PartWritten}
 
 -- a whole text is a front of itself

@@ -2,7 +2,7 @@
 use Rattle.std.specs.Prelude.{◌≡◌, ◌⊎◌, ⊤, ℕ, List, Option, Result, Ok, Err, IsErr, IsErrOf, IsNone, IsOk, IsSome, IsSomeAnd, String}
 use Rattle.std.specs.declared.alloc.Global.{Global}
 use Rattle.pack_base.specs.Outside.{Files, SaidPart}
-use Rattle.canpack_top.specs.Check.{Accepts, Rejects, Refuses, problem_at, texts_at}
+use Rattle.canpack_top.specs.Check.{Accepts, HasOnePlace, Rejects, Refuses, problem_at, texts_at}
 use Rattle.canpack_top.specs.Command.{Command, command_of, check, plan}
 use Rattle.canpack_top.specs.Line.{placed_line, refused_line, rejected_matrix_line, usage_line}
 use Rattle.canpack_top.specs.Plan.{IsPlanned, IsPartPlanned}
@@ -37,6 +37,11 @@ WriteFaultsRose before now (plan names branches) = WriteFaults names.matrix name
 abbrev pub Accepted : Files → Command → Type 0
 Accepted files (check names) = Accepts names files
 Accepted files (plan names branches) = IsOk (problem_at names files)
+
+-- in the matrix that `check` accepted, each signal has one place of its own
+abbrev pub OnePlaceEach : Files → Command → Type 0
+OnePlaceEach files (check names) = HasOnePlace names files
+OnePlaceEach files (plan names branches) = ⊤
 
 -- `check` finds that the texts stand and the matrix isn't placed
 abbrev pub Rejected : Files → Command → Type 0

@@ -6,6 +6,7 @@ use Rattle.pack_model.specs.declared.network.Network.{Network}
 use Rattle.pack_model.specs.declared.signal.Signal.{Signal}
 use Rattle.pack_model.specs.Problem.{Parts, problem_of}
 use Rattle.matrix_text.specs.declared.matrix.MatrixRow.{MatrixRow}
+use Rattle.matrix_text.specs.OnePlace.{OnePlace}
 use Rattle.matrix_text.specs.Placed.{Placed}
 use Rattle.canpack_top.specs.declared.line.Role.{Role}
 use Rattle.canpack_top.specs.declared.line.Role.TheVariants as role
@@ -24,17 +25,31 @@ text_limit = 16777216
 abbrev pub size_limit : ℕ
 size_limit = 2 ^ 63 - 1
 
+-- the network of a file
+unfoldable pub network_at : Files → List ℕ → Result Network Role
+network_at files name = within text_limit role.Network (bytes_at files name) >>= network_in
+
+-- the signals of a file
+unfoldable pub signals_at : Files → List ℕ → Result (List Signal) Role
+signals_at files name = within text_limit role.Signals (bytes_at files name) >>= signals_in
+
+-- the matrix of a file
+unfoldable pub matrix_at : Files → List ℕ → Result (List MatrixRow) Role
+matrix_at files name = within size_limit role.Matrix (bytes_at files name) >>= matrix_in
+
+-- that a file is the certificate of kind `placed`
+unfoldable pub cert_at : Files → List ℕ → Result (Unit {0}) Role
+cert_at files name = within size_limit role.Cert (bytes_at files name) >>= cert_in
+
 -- the problem of a network and signals
-abbrev pub problem_in : Network → List Signal → Result Parts Role
+unfoldable pub problem_in : Network → List Signal → Result Parts Role
 problem_in network signals = refused_as role.Signals (problem_of network signals)
 
 -- the problem of the two files that are named, or the first refusal
-abbrev pub problem_at : Names → Files → Result Parts Role
+unfoldable pub problem_at : Names → Files → Result Parts Role
 problem_at names files = do
-  text ← within text_limit role.Network (bytes_at files names.network)
-  network ← network_in text
-  text ← within text_limit role.Signals (bytes_at files names.signals)
-  signals ← signals_in text
+  network ← network_at files names.network
+  signals ← signals_at files names.signals
   problem_in network signals
 
 -- What `check` judges.
@@ -43,18 +58,20 @@ pub record Judged : Type 0 where
   pub matrix : List MatrixRow
 
 -- what the four files that are named say, or the first refusal
-abbrev pub texts_at : Names → Files → Result Judged Role
+unfoldable pub texts_at : Names → Files → Result Judged Role
 texts_at names files = do
   problem ← problem_at names files
-  text ← within size_limit role.Matrix (bytes_at files names.matrix)
-  matrix ← matrix_in text
-  text ← within size_limit role.Cert (bytes_at files names.cert)
-  cert ← cert_in text
+  matrix ← matrix_at files names.matrix
+  cert ← cert_at files names.cert
   Ok (record { problem = problem; matrix = matrix })
 
 -- the texts stand and the matrix is placed
 abbrev pub Accepts : Names → Files → Type 0
 Accepts names files = IsOkAnd (texts_at names files) (λ judged. Placed judged.problem judged.matrix)
+
+-- the texts stand and each signal has one place of its own
+abbrev pub HasOnePlace : Names → Files → Type 0
+HasOnePlace names files = IsOkAnd (texts_at names files) (λ judged. OnePlace judged.problem judged.matrix)
 
 -- the texts stand and the matrix isn't placed
 abbrev pub Rejects : Names → Files → Type 0

@@ -1,10 +1,13 @@
 -- The four texts of the first stage: no byte order mark, no I-PDUs, and certificates of kind `placed`.
-use Rattle.std.specs.Prelude.{ℕ, Bool, List, [], ◌∷◌, ◌++◌, length, codes, is_none, nat_lt, nat_eq, Result, Ok, Err, if◌then◌else◌}
+use Rattle.std.specs.Prelude.{◌&&◌, ℕ, Bool, true, false, List, [], ◌∷◌, ◌++◌, length, codes, is_none, nat_lt, nat_eq, Result, Ok, Err, if◌then◌else◌}
 use Rattle.std.specs.List.{list_all, starts_with}
 use Rattle.std.specs.Str.{bytes_eq}
 use Rattle.csv_table.specs.Columns.{◌>>=◌}
 use Rattle.pack_model.specs.declared.network.Network.{Network}
 use Rattle.pack_model.specs.declared.signal.Signal.{Signal}
+use Rattle.matrix_text.specs.MatrixText.{matrix_of_text}
+use Rattle.matrix_text.specs.declared.matrix.Header.{Header}
+use Rattle.matrix_text.specs.declared.matrix.Header.TheVariants as header
 use Rattle.matrix_text.specs.declared.matrix.MatrixRow.{MatrixRow}
 use Rattle.input_text.specs.NetworkText.{network_of}
 use Rattle.input_text.specs.SignalsText.{signals_of}
@@ -29,7 +32,7 @@ abbrev pub unmarked : Role → List ℕ → Result (List ℕ) Role
 unmarked part text = if has_mark text then Err part else Ok text
 
 -- the network of a text
-abbrev pub network_in : List ℕ → Result Network Role
+unfoldable pub network_in : List ℕ → Result Network Role
 network_in text = unmarked role.Network text >>= λ text. refused_as role.Network (network_of text)
 
 -- no signal is in an I-PDU
@@ -41,17 +44,31 @@ abbrev pub free : List Signal → Result (List Signal) Role
 free signals = if are_free signals then Ok signals else Err role.Signals
 
 -- the free signals of a text
-abbrev pub signals_in : List ℕ → Result (List Signal) Role
+unfoldable pub signals_in : List ℕ → Result (List Signal) Role
 signals_in text = unmarked role.Signals text >>= λ text. refused_as role.Signals (signals_of text) >>= free
 
+-- a row's frame has no headers
+abbrev pub is_no_header : Header → Bool
+is_no_header header.NoHeader = true
+is_no_header header.Short = false
+is_no_header header.Long = false
+
+-- no row has a header or an I-PDU
+abbrev pub are_plain : List MatrixRow → Bool
+are_plain rows = list_all (λ row. is_no_header row.header && is_none row.pdu) rows
+
+-- the rows, where none has a header or an I-PDU
+abbrev pub plain : List MatrixRow → Result (List MatrixRow) Role
+plain rows = if are_plain rows then Ok rows else Err role.Matrix
+
 -- the rows of a text without headers and I-PDUs
-abbrev pub matrix_in : List ℕ → Result (List MatrixRow) Role
-matrix_in text = Err role.Matrix
+unfoldable pub matrix_in : List ℕ → Result (List MatrixRow) Role
+matrix_in text = unmarked role.Matrix text >>= λ text. refused_as role.Matrix (matrix_of_text text) >>= plain
 
 -- the certificate of kind `placed`
 abbrev pub placed_cert : List ℕ
 placed_cert = codes "canpack certificate 1" ++ 10 ∷ codes "kind placed" ++ 10 ∷ codes "end" ++ 10 ∷ []
 
 -- that a text is the certificate of kind `placed`
-abbrev pub cert_in : List ℕ → Result (Unit {0}) Role
+unfoldable pub cert_in : List ℕ → Result (Unit {0}) Role
 cert_in text = if bytes_eq text placed_cert then Ok tt else Err role.Cert

@@ -7,6 +7,7 @@
 mod check;
 mod command;
 mod ending;
+mod files;
 mod line;
 mod plan;
 mod problem;

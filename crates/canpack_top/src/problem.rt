@@ -1,6 +1,5 @@
 //! The problem of two files.
 ghost use Rattle.std.specs.Prelude.{◌≡◌, IsSome, IsErrOf, All};
-ghost use Rattle.pack_base.specs.Outside.{bytes_at};
 ghost use Rattle.pack_model.specs.Network.{NetworkStands};
 ghost use Rattle.pack_model.specs.Signal.{IsFree, SignalStands};
 ghost use Rattle.canpack_top.specs.Check.{problem_at, problem_in};
@@ -10,16 +9,13 @@ ghost use Rattle.canpack_top.specs.Reads.{ProblemFaults, ReadsOnly};
 
 use crate::command::Names;
 use crate::ending::Stop;
+use crate::files::{network_at, signals_at};
 use crate::line::Role;
-use crate::reading::read_file;
-use crate::texts::{network_in, signals_in};
 use pack_base::Folder;
 use pack_model::{Network, Problem, ProblemFault, Signal, problem_of};
 use std::alloc::Global;
 
-/// The greatest length of NETWORK and of SIGNALS, in bytes.
-const TEXT_LIMIT: u64 = 16_777_216;
-
+#[tactic(auto, unfolding(crate::specs::Check::problem_in))]
 fn problem_in(alloc: Global, network: Network, signals: Vec<Signal>) -> Result<Problem, Stop>
     requires network { NetworkStands network }
     requires signals { All SignalStands signals.items }
@@ -34,6 +30,7 @@ fn problem_in(alloc: Global, network: Network, signals: Vec<Signal>) -> Result<P
 }
 
 /// Reads the network and the signals, and gives their problem.
+#[tactic(auto, using(crate::proofs::ReadTwice::reads_trans), unfolding(crate::specs::Check::problem_at))]
 pub fn read_problem<F: Folder>(
     alloc: Global,
     folder: &mut F,
@@ -46,9 +43,7 @@ pub fn read_problem<F: Folder>(
     ensures reads { IsErrOf result Stop.WriteFault → ⊥ }
     ensures only { ReadsOnly F.files F.read_faults F.write_faults F.given folder.old folder.new }
 {
-    let text = read_file(alloc, folder, names.network, TEXT_LIMIT, Role::Network)?;
-    let network = network_in(alloc, &text)?;
-    let text = read_file(alloc, folder, names.signals, TEXT_LIMIT, Role::Signals)?;
-    let signals = signals_in(alloc, &text)?;
+    let network = network_at(alloc, folder, names.network)?;
+    let signals = signals_at(alloc, folder, names.signals)?;
     problem_in(alloc, network, signals)
 }

@@ -9,7 +9,7 @@ ghost use Rattle.canpack_top.specs.Answer.{
   IsRefusal,
   IsRefused,
   IsStopped,
-  Leaves,
+  Leaves, OnePlaceEach,
   ReadFaultsRose,
   Rejected,
   WriteFaultsRose,
@@ -35,6 +35,7 @@ pub fn run<F: Folder>(alloc: Global, folder: &mut F, command: Command<'_>) -> Re
     ensures refuses { IsSome (F.files folder.old) → IsRefused (F.files folder.old) (seen command.entry)
         → IsRefusal result ⊎ IsStopped result }
 
+    ensures one_place { IsSome (F.files folder.old) → result ≡ Ok verdict.Placed → OnePlaceEach (F.files folder.old) (seen command.entry) }
     ensures read_fault { IsErrOf result Stop.ReadFault
         → ReadFaultsRose (F.read_faults folder.old) (F.read_faults folder.new) (seen command.entry) }
     ensures write_fault { IsErrOf result Stop.WriteFault

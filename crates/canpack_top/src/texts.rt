@@ -3,12 +3,12 @@ ghost use Rattle.std.specs.Prelude.{◌≡◌, IfOk, All};
 ghost use Rattle.pack_model.specs.Network.{NetworkStands};
 ghost use Rattle.pack_model.specs.Signal.{IsFree, SignalStands};
 ghost use Rattle.canpack_top.specs.Ending.{Says};
-ghost use Rattle.canpack_top.specs.Text.{are_free, cert_in, matrix_in, network_in, signals_in, unmarked};
+ghost use Rattle.canpack_top.specs.Text.{are_free, are_plain, cert_in, matrix_in, network_in, signals_in, unmarked};
 
 use crate::ending::Stop;
 use crate::line::Role;
 use input_text::{NetworkFault, SignalsFault, read_network, read_signals};
-use matrix_text::Matrix;
+use matrix_text::{Header, Matrix, MatrixFault, MatrixRow, read_matrix};
 use pack_model::{Network, Signal};
 use std::alloc::Global;
 
@@ -35,6 +35,7 @@ fn are_free(signals: &[Signal]) -> bool
 }
 
 /// The network of a text.
+#[tactic(auto, unfolding(crate::specs::Text::network_in))]
 pub fn network_in(alloc: Global, text: &[u8]) -> Result<Network, Stop>
     ensures exact { Says (λ network. network) result (network_in text.now) }
     ensures stands { IfOk result NetworkStands }
@@ -48,6 +49,7 @@ pub fn network_in(alloc: Global, text: &[u8]) -> Result<Network, Stop>
 }
 
 /// The free signals of a text.
+#[tactic(auto, unfolding(crate::specs::Text::signals_in))]
 pub fn signals_in(alloc: Global, text: &[u8]) -> Result<Vec<Signal>, Stop>
     ensures exact { Says (λ signals. signals.items) result (signals_in text.now) }
     ensures stand { IfOk result (λ signals. All SignalStands signals.items) }
@@ -65,15 +67,31 @@ pub fn signals_in(alloc: Global, text: &[u8]) -> Result<Vec<Signal>, Stop>
     Ok(signals)
 }
 
+fn are_plain(rows: &[MatrixRow]) -> bool
+    ensures { result ≡ are_plain rows.now }
+{
+    rows.iter().all(|row| matches!(row.header, Header::NoHeader) && row.pdu.is_none())
+}
+
 /// The matrix of a text without headers and I-PDUs.
+#[tactic(auto, unfolding(crate::specs::Text::matrix_in))]
 pub fn matrix_in(alloc: Global, text: &[u8]) -> Result<Matrix, Stop>
     ensures { Says (λ matrix. matrix) result (matrix_in text.now) }
 {
     check_unmarked(text, Role::Matrix)?;
-    Err(Stop::Memory)
+    let matrix = match read_matrix(alloc, text) {
+        Ok(matrix) => matrix,
+        Err(MatrixFault::Memory) => return Err(Stop::Memory),
+        Err(_) => return Err(Stop::Refused(Role::Matrix)),
+    };
+    if !are_plain(matrix.rows()) {
+        return Err(Stop::Refused(Role::Matrix));
+    }
+    Ok(matrix)
 }
 
 /// Refuses a text that isn't the certificate of kind `placed`.
+#[tactic(auto, unfolding(crate::specs::Text::cert_in))]
 pub fn cert_in(text: &[u8]) -> Result<(), Stop>
     ensures { Says (λ _. tt) result (cert_in text.now) }
 {

@@ -4,20 +4,7 @@ ghost use Rattle.pack_base.specs.Counts.{Rose};
 ghost use Rattle.pack_base.specs.Outside.{Later, SaidPart, and_said};
 ghost use Rattle.canpack_top.specs.declared.line.Role.{Role};
 ghost use Rattle.canpack_top.specs.Answer.{
-  Accepted,
-  Done,
-  IsCheck,
-  IsExcused,
-  IsRefused,
-  LeavesFiles,
-  OfCommand,
-  PartDone,
-  ReadFaultsRose,
-  Refused,
-  Rejected,
-  SaysNothing,
-  SaysPart,
-  WriteFaultsRose,
+    Accepted, Done, IsCheck, IsExcused, IsRefused, LeavesFiles, OfCommand, OnePlaceEach, PartDone, ReadFaultsRose, Refused, Rejected, SaysNothing, SaysPart, WriteFaultsRose,
 };
 ghost use Rattle.canpack_top.specs.Command.{command_of};
 ghost use Rattle.canpack_top.specs.Line.{placed_line, refused_line, rejected_matrix_line, usage_line};
@@ -65,6 +52,7 @@ pub fn canpack<R: Threads, F: Folder, O: Sink, G: Gate + Sync>(
 
     // What the files say, where they are told.
     ensures accepted { result ≡ 0 → IsSome (F.files folder.old) → OfCommand words.now (Accepted (F.files folder.old)) }
+    ensures one_place { result ≡ 0 → IsSome (F.files folder.old) → OfCommand words.now (OnePlaceEach (F.files folder.old)) }
     ensures rejected { result ≡ 5 → IsSome (F.files folder.old) → OfCommand words.now (Rejected (F.files folder.old)) }
     ensures refused { result ≡ 4 → (part : Role) × (IsSome (F.files folder.old) → OfCommand words.now (Refused part (F.files folder.old)))
         × (O.said out.new ≡ and_said (O.said out.old) (refused_line part)) }

@@ -57,3 +57,8 @@ name_back k name fields e is = rw (e, is) refl
 pub anyway : {P T E : Type 0} (r : Result T E) → P → OnOk r P
 anyway (Ok x) p = p
 anyway (Err e) p = tt
+
+-- the greatest number of 32 bits
+pub below_32_bits : (o : Option ℕ) → IfSome o (λ n. n < 2 ^ 32) → IfSome o (λ n. n ≤ 4294967295)
+below_32_bits None h = tt
+below_32_bits (Some n) h = omega (arith, h)

@@ -5,13 +5,13 @@ use Rattle.csv.specs.Reading.{records_from, strip_bom}
 use Rattle.csv.specs.Writing.{default_writer, fields_text, needs_quotes, quoted, read_back, row_text}
 use Rattle.csv.specs.declared.parser.State.TheVariants as st
 use Rattle.csv.proofs.RoundTrip.{read-write}
-use Rattle.csv_table.specs.Inside.{rows_from}
+use Rattle.csv_table.specs.Inside.{records_left}
 use Rattle.csv_table.specs.Rows.{rows_of}
 use Rattle.csv_table.specs.Writing.{rows_text}
 use Rattle.csv_table.proofs.Records.{rows_first}
 
 -- the records of written records
-rows_back : (rows : List (List (List ℕ))) → rows_from st.StartRecord (Some (rows_text rows)) ≡ map read_back rows
+rows_back : (rows : List (List (List ℕ))) → records_left st.StartRecord (Some (rows_text rows)) ≡ map read_back rows
 unfolding records_from next_record
 rows_back [] = refl
 rows_back (row ∷ rows) =
@@ -47,7 +47,7 @@ row_mark b name names rest e =
 pub rows_of-rows_text : (b : ℕ) (name : List ℕ) (names : List (List ℕ)) (rows : List (List (List ℕ))) → (b == 0xEF) ≡ false
     → rows_of (rows_text (((b ∷ name) ∷ names) ∷ rows)) ≡ ((b ∷ name) ∷ names) ∷ map read_back rows
 rows_of-rows_text b name names rows e =
-    ap (λ (text : List ℕ). rows_from st.StartRecord (Some text)) (row_mark b name names (rows_text rows) e) ∙ rows_back (((b ∷ name) ∷ names) ∷ rows)
+    ap (λ (text : List ℕ). records_left st.StartRecord (Some text)) (row_mark b name names (rows_text rows) e) ∙ rows_back (((b ∷ name) ∷ names) ∷ rows)
 
 -- records that have fields read back as they are
 pub map_read_back : {A : Type 0} (f : A → List (List ℕ)) → ((x : A) → read_back (f x) ≡ f x) → (xs : List A) → map read_back (map f xs) ≡ map f xs
@@ -61,3 +61,7 @@ text_more f xs i x before after total lt at step whole =
     let split : before ++ rows_text (map f (drop i xs)) ≡ before ++ (row_text default_writer (f x) ++ rows_text (map f (drop (i + 1) xs))) =
     rw (add-one, drop-cons xs i x, ← at) refl in
     ap (λ (t : List ℕ). t ++ rows_text (map f (drop (i + 1) xs))) step ∙ append_assoc before (row_text default_writer (f x)) _ ∙ sym split ∙ whole
+
+-- a header and rows, as they were written one after the other
+pub written : (text after header start head rows : List ℕ) → text ≡ after → after ≡ header ++ rows → header ≡ start ++ head → start ≡ [] → text ≡ head ++ rows
+written text after header start head rows a b c d = a ∙ b ∙ ap (λ (x : List ℕ). x ++ rows) (c ∙ ap (λ (x : List ℕ). x ++ head) d)

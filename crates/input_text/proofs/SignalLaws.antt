@@ -1,5 +1,5 @@
 -- The laws of the text of signals: what is read stands, and what is written is read.
-use Rattle.std.proofs.Common.{◌≡◌, ◌≤◌, ◌<◌, ◌+◌, ◌==◌, ◌∷◌, ◌++◌, ℕ, Bool, true, false, cond, List, [], length, map, Option, Some, None, Result, Ok, Err, refl, ap, ◌∙◌, arith, decimal, codes, inl, inr}
+use Rattle.std.proofs.Common.{◌≡◌, ◌≤◌, ◌<◌, ◌+◌, ◌==◌, ◌∷◌, ℕ, Bool, true, false, cond, List, [], length, drop, map, Option, Some, None, Result, Ok, Err, refl, ap, ◌∙◌, arith, decimal, codes, inl, inr}
 use Rattle.std.specs.Prelude.{IfOk, IfSome, All, unwrap_or}
 use Rattle.std.specs.List.{AllByRecursion}
 use Rattle.std.specs.Global.{Vec}
@@ -8,14 +8,14 @@ use Rattle.std.proofs.lemmas.List.Elements.{All-from_recursion, All-weaker, recu
 use Rattle.pack_model.specs.Name.{IsName}
 use Rattle.pack_model.specs.Signal.{SignalStands}
 use Rattle.pack_model.specs.declared.signal.Signal.{Signal}
-use Rattle.csv_table.specs.Columns.{◌>>=◌, count_in, is_row, name_in, number_in, optional_in}
+use Rattle.csv_table.specs.Columns.{◌>>=◌, in_row, begins_with, count_in, name_in, number_in, optional_in}
 use Rattle.csv_table.specs.Rows.{rows_of}
 use Rattle.csv_table.proofs.Ranges.{Within, name_back, name_named, number_back, number_within, optional_back, optional_within}
 use Rattle.csv_table.proofs.RoundTrip.{map_read_back, rows_of-rows_text}
 use Rattle.csv_table.specs.Gives.{Gives}
 use Rattle.csv_table.specs.Writing.{optional_text}
 use Rattle.input_text.specs.declared.signals.SignalsFault.{SignalsFault}
-use Rattle.input_text.specs.SignalsText.{signals_refusal, SignalsRefusal, bad_header, too_many, ReadsBack, in_row, signal_fields, signal_of, signals_from, signals_header, signals_in, signals_of, signals_text}
+use Rattle.input_text.specs.SignalsText.{signals_refusal, SignalsRefusal, bad_header, too_many, bad_row, ReadsBack, signal_fields, signal_of, signals_from, signals_header, signals_in, signals_of, signals_text}
 
 -- a signal that stands, with its names
 pub record IsSignal (s : Signal) : Type 0 where
@@ -77,7 +77,7 @@ record AreSignals (n : ℕ) (signals : List Signal) : Type 0 where
   few : n + length signals ≤ 2050
 
 one_more : (n : ℕ) (signal : Result Signal ℕ) (others : Result (List Signal) SignalsRefusal) → IfOk signal IsSignal → IfOk others (AreSignals (n + 1))
-    → IfOk (in_row n signal >>= λ s. others >>= λ ss. Ok (s ∷ ss)) (AreSignals n)
+    → IfOk (in_row bad_row n signal >>= λ s. others >>= λ ss. Ok (s ∷ ss)) (AreSignals n)
 one_more n (Err k) others h more = tt
 one_more n (Ok s) (Err e) h more = tt
 one_more n (Ok s) (Ok ss) h more = record { each = (h, more.each); few = omega (arith, more.few) }
@@ -101,7 +101,7 @@ rows_stand n (row ∷ rows) le =
 
 -- what is read stands, and is no more than 2048 signals
 pub signals_stand : (text : List ℕ) (signals : List Signal) → signals_of text ≡ Ok signals → All IsSignal signals × (length signals ≤ 2048)
-signals_stand text signals e = by (rows_of text) e
+signals_stand text signals e = chosen (begins_with signals_header (rows_of text)) (signals_from 2 (drop 1 (rows_of text))) e (rows_stand 2 (drop 1 (rows_of text)) (omega arith))
   where
     read : (r : Result (List Signal) SignalsRefusal) → r ≡ Ok signals → IfOk r (AreSignals 2) → All IsSignal signals × (length signals ≤ 2048)
     read (Ok xs) is h =
@@ -112,10 +112,6 @@ signals_stand text signals e = by (rows_of text) e
     chosen : (b : Bool) (r : Result (List Signal) SignalsRefusal) → cond b r (Err bad_header) ≡ Ok signals → IfOk r (AreSignals 2) → All IsSignal signals × (length signals ≤ 2048)
     chosen true r is h = read r is h
     chosen false r is h = absurd cc
-
-    by : (rows : List (List (List ℕ))) → signals_in rows ≡ Ok signals → All IsSignal signals × (length signals ≤ 2048)
-    by [] is = absurd cc
-    by (header ∷ rows) is = chosen (is_row header signals_header) (signals_from 2 rows) is (rows_stand 2 rows (omega arith))
 
 -- ---- and back
 
@@ -164,9 +160,3 @@ read_stand text (Err e) h = tt
 pub read_few : (text : List ℕ) (r : Result (Vec Signal) SignalsFault) → Gives (λ v. v.items) signals_refusal r (signals_of text) → IfOk r (λ v. length v.items ≤ 2048)
 read_few text (Ok v) h = (signals_stand text v.items h).1
 read_few text (Err e) h = tt
-
--- ---- what a writer wrote
-
--- a header and rows, as they were written one after the other
-pub written : (text after header start head rows : List ℕ) → text ≡ after → after ≡ header ++ rows → header ≡ start ++ head → start ≡ [] → text ≡ head ++ rows
-written text after header start head rows a b c d = a ∙ b ∙ ap (λ (x : List ℕ). x ++ rows) (c ∙ ap (λ (x : List ℕ). x ++ head) d)

@@ -1,7 +1,7 @@
 -- The text of signals (SIGNALS), the project's own format: CSV as RFC 4180 has it, read by `csv`'s rules.
-use Rattle.std.specs.Prelude.{◌≡◌, ℕ, ◌+◌, ◌==◌, ◌∷◌, [], List, codes, decimal, map, Option, Some, None, unwrap_or, Result, Ok, Err, if◌then◌else◌}
+use Rattle.std.specs.Prelude.{◌≡◌, ℕ, ◌+◌, ◌==◌, ◌∷◌, [], List, codes, decimal, drop, map, Option, Some, None, unwrap_or, Result, Ok, Err, if◌then◌else◌}
 use Rattle.pack_model.specs.declared.signal.Signal.{Signal}
-use Rattle.csv_table.specs.Columns.{◌>>=◌, is_row, count_in, name_in, number_in, optional_in}
+use Rattle.csv_table.specs.Columns.{◌>>=◌, begins_with, in_row, count_in, name_in, number_in, optional_in}
 use Rattle.csv_table.specs.Rows.{rows_of}
 use Rattle.csv_table.specs.Writing.{optional_text, rows_text}
 use Rattle.input_text.specs.declared.signals.SignalsFault.{SignalsFault}
@@ -39,23 +39,17 @@ signal_of fields = do
     jitter_us = unwrap_or jitter 0;
   })
 
--- a column that breaks its rule, in row n
-abbrev pub in_row : {A : Type 0} → ℕ → Result A ℕ → Result A SignalsRefusal
-in_row n (Ok x) = Ok x
-in_row n (Err k) = Err (bad_row n k)
-
 -- the signals of the records from row n on; a record in row 2050 is one too many, whatever its columns
 abbrev pub signals_from : ℕ → List (List (List ℕ)) → Result (List Signal) SignalsRefusal
 signals_from n [] = Ok []
 signals_from n (row ∷ rows) = if n == 2050 then Err too_many else (do
-  signal ← in_row n (signal_of row)
+  signal ← in_row bad_row n (signal_of row)
   signals ← signals_from (n + 1) rows
   Ok (signal ∷ signals))
 
 -- the signals under the header
 abbrev pub signals_in : List (List (List ℕ)) → Result (List Signal) SignalsRefusal
-signals_in [] = Err bad_header
-signals_in (header ∷ rows) = if is_row header signals_header then signals_from 2 rows else Err bad_header
+signals_in rows = if begins_with signals_header rows then signals_from 2 (drop 1 rows) else Err bad_header
 
 -- the signals of a text, or its first refusal
 abbrev pub signals_of : List ℕ → Result (List Signal) SignalsRefusal

@@ -9,3 +9,6 @@ mod signals;
 
 pub use network::{NetworkFault, read_network, write_network};
 pub use signals::{SignalsFault, read_signals, write_signals};
+
+#[cfg(test)]
+mod tests;

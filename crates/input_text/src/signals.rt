@@ -9,9 +9,7 @@ ghost use Rattle.input_text.specs.SignalsText.{ReadsBack, SignalsText, signal_fi
 ghost use Rattle.input_text.specs.declared.signals.SignalsFault.TheVariants as fault;
 
 use csv::ByteRecord;
-use csv_table::{
-    ColumnFault, Rows, RowsWriter, count_at, has_fields, name_at, number_at, optional_at,
-};
+use csv_table::{ColumnFault, Rows, RowsWriter, count_at, name_at, number_at, optional_at};
 use pack_model::{Memory, Signal};
 use std::alloc::{AllocFailed, Global};
 use thiserror::Error;
@@ -133,7 +131,7 @@ fn read_all_signals(alloc: Global, text: &[u8]) -> Result<Vec<Signal>, SignalsFa
 {
     let mut rows = Rows::of_text(alloc, text);
     let mut row = ByteRecord::new(alloc);
-    if !rows.next(&mut row)? || !has_fields(&row, &SIGNALS_HEADER) {
+    if !rows.next_is(&mut row, &SIGNALS_HEADER)? {
         return Err(SignalsFault::BadHeader);
     }
     read_signal_rows(alloc, &mut rows, &mut row)

@@ -1,4 +1,6 @@
 pub mod Frames
+pub mod MatrixText
 pub mod OnePlace
 pub mod Placed
 pub mod Row
+pub mod Tables

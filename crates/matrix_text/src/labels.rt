@@ -1,17 +1,19 @@
 //! Whether a matrix is placed, and the grouping and the order of its frames.
-ghost use Rattle.std.specs.Prelude.{◌≡◌, ◌×◌, length, take, IsSome, IsNone, IfSome};
+ghost use Rattle.std.specs.Prelude.{◌≡◌, ◌≤◌, length, take, IsNone, OnSome, IfSome};
+ghost use Rattle.matrix_text.specs.Frames.{frames_of, grouping_of, order_of};
+ghost use Rattle.matrix_text.specs.OnePlace.{OnePlace};
+ghost use Rattle.matrix_text.specs.Placed.{Placed};
 
+use crate::checks::{are_plain, fill_frames, frames_agree};
+use crate::frames::{number_frames, put_in_order};
+use crate::matrix::Matrix;
+use crate::overlap::are_apart;
+use crate::signal_rows::find_rows;
 use pack_model::Problem;
 
-use crate::matrix::Matrix;
-use crate::checks::{are_plain, fill_frames, frames_agree};
-use crate::frames::{NO_LABEL, number_frames, put_in_order};
-use crate::overlap::are_apart;
-use crate::signal_rows::{NO_ROW, find_rows};
-
 /// The grouping of a placed matrix: its number of frames, each item's label in `labels`, and the
-/// frames' labels by ascending identifier at the front of `order`; None exactly where the matrix is
-/// not placed, and then both slices may hold any numbers.
+/// frames' labels by ascending identifier at the front of `order`. None exactly where the matrix is
+/// not placed; then both slices may hold any numbers. It takes no memory.
 pub fn labels_of(
     problem: &Problem,
     matrix: &Matrix,
@@ -20,21 +22,22 @@ pub fn labels_of(
 ) -> Option<u32>
     requires labels { length labels.old ≡ length problem.now.items }
     requires order { length order.old ≡ length problem.now.items }
+
+    ensures not_placed { IsNone result → ¬ Placed problem.now matrix.now }
+    ensures placed { OnSome result (Placed problem.now matrix.now) }
+    ensures one_place { OnSome result (OnePlace problem.now matrix.now) }
+    ensures frames { IfSome result (λ frames. frames ≡ length (frames_of problem.now matrix.now)) }
+    ensures labels { OnSome result (labels.new ≡ grouping_of problem.now matrix.now) }
+    ensures order { IfSome result (λ frames. take frames order.new ≡ order_of problem.now matrix.now) }
 {
     let rows = matrix.rows();
-    let mut row_of = [NO_ROW; 2048];
-    if !find_rows(problem, rows, &mut row_of)
-        || !frames_agree(rows)
-        || !are_plain(rows)
-        || !fill_frames(problem.network(), rows)
-    {
+    let row_of = find_rows(problem, rows)?;
+    if !frames_agree(rows) || !are_plain(rows) || !fill_frames(problem.network(), rows) {
         return None;
     }
-    let mut label_of = [NO_LABEL; 2048];
-    let frames = number_frames(problem, rows, &row_of, labels, &mut label_of);
+    let label_of = number_frames(problem, rows, &row_of, labels);
     if !are_apart(rows, &label_of) {
         return None;
     }
-    put_in_order(&label_of, order);
-    Some(frames)
+    Some(put_in_order(&label_of, order) as u32)
 }

@@ -4,6 +4,14 @@
 //! is placed, with the grouping and the order of its frames.
 #![tactic(auto)]
 
+mod checks;
+mod frames;
+mod labels;
 mod matrix;
+mod overlap;
+mod signal_rows;
+mod text;
 
+pub use labels::labels_of;
 pub use matrix::{Header, Matrix, MatrixRow};
+pub use text::{MatrixFault, read_matrix, write_matrix};

@@ -1,3 +1,5 @@
+pub mod ClassTimes
+pub mod Grouping
 pub mod Name
 pub mod Network
 pub mod Problem

@@ -1,7 +1,7 @@
 use Rattle.std.proofs.Common.{arith}
 use Rattle.std.proofs.lemmas.Grind.{common_steps}
 use Rattle.canpack_top.specs.Answer.{usage, placed, rejected, refused}
-use Rattle.canpack_top.specs.Line.{placed_line, refused_line, rejected_matrix_line, usage_line}
+use Rattle.canpack_top.specs.Line.{placed_line, rejected_matrix_line, usage_line}
 use Rattle.canpack_top.proofs.Said.{says_part}
 use Rattle.canpack_top.proofs.top.canpack.Goals as goal
 

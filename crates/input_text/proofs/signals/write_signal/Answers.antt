@@ -1,13 +1,8 @@
-use Rattle.std.proofs.Common.{arith, ℕ, ◌<◌, ◌≤◌, ◌^◌, Option, Some, None, subst}
-use Rattle.std.specs.Prelude.{IfSome}
+use Rattle.std.proofs.Common.{subst}
 use Rattle.pack_model.specs.Name.{IsName}
-use Rattle.csv_table.proofs.Ranges.{anyway}
+use Rattle.csv_table.proofs.Ranges.{anyway, below_32_bits}
 use Rattle.input_text.proofs.SignalLaws.{signal_back}
 use Rattle.input_text.proofs.signals.write_signal.Goals as goal
-
-high : (o : Option ℕ) → IfSome o (λ id. id < 2 ^ 32) → IfSome o (λ id. id ≤ 4294967295)
-high None h = tt
-high (Some id) h = omega (arith, h)
 
 pub returns-clause-reads_back : goal.returns-clause-reads_back
 returns-clause-reads_back c =
@@ -16,4 +11,4 @@ returns-clause-reads_back c =
       stands = c.requires.stands;
       name = subst IsName c.bytes.ensures.bytes c.bytes.ensures.name;
       sender = subst IsName c.bytes-2.ensures.bytes c.bytes-2.ensures.name;
-    }) (high s.pdu c.optional.ensures.fits))
+    }) (below_32_bits s.pdu c.optional.ensures.fits))

@@ -1,7 +1,8 @@
 use Rattle.std.proofs.Common.{ap, ◌∙◌}
 use Rattle.std.proofs.lemmas.Result.{IfOk-weaker}
 use Rattle.input_text.specs.SignalsText.{signals_of}
-use Rattle.input_text.proofs.SignalLaws.{signals_back, written}
+use Rattle.csv_table.proofs.RoundTrip.{written}
+use Rattle.input_text.proofs.SignalLaws.{signals_back}
 use Rattle.input_text.proofs.signals.write_signals.Goals as goal
 
 pub returns-clause-exact : goal.returns-clause-exact

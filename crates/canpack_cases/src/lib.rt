@@ -1,0 +1,13 @@
+//! The worked cases of the top call, as tables over a folder and a sink in memory.
+#![tactic(auto)]
+
+#[cfg(test)]
+mod hostile;
+#[cfg(test)]
+mod matrices;
+#[cfg(test)]
+mod runs;
+#[cfg(test)]
+mod texts;
+#[cfg(test)]
+mod words;

@@ -1,0 +1,54 @@
+// One run of the top call over files in memory.
+use canpack_top::canpack;
+use pack_base::{MemFolder, MemSink, Memory, OpenGate};
+use std::thread::Threads;
+
+/// The four file words of each run.
+pub const NAMES: [&str; 4] = ["network.json", "signals.csv", "matrix.csv", "cert.txt"];
+
+/// The words of `check` over these files.
+pub const CHECK: [&str; 6] = [
+    "check",
+    "network.json",
+    "signals.csv",
+    "matrix.csv",
+    "cert.txt",
+    "1",
+];
+
+pub const NETWORK: &[u8] =
+    b"{\"version\":1,\"ticks_per_us\":80,\"nominal_ticks\":160,\"data_ticks\":40,\"first_id\":256}\n";
+
+pub const SIGNALS: &[u8] =
+    b"signal,sender,pdu,bits,period_us,deadline_us,jitter_us\nS1,ECU1,,8,10000,10000,0\nS2,ECU1,,8,10000,10000,0\n";
+
+pub const MATRIX: &[u8] =
+    b"id,sender,size,ticks,header,pdu,at,signal,start,bits\n256,ECU1,2,7400,none,,0,S1,0,8\n256,ECU1,2,7400,none,,0,S2,8,8\n";
+
+pub const CERT: &[u8] = b"canpack certificate 1\nkind placed\nend\n";
+
+/// Two signals in one frame, which `check` accepts.
+pub const TWO_SIGNALS: [&[u8]; 4] = [NETWORK, SIGNALS, MATRIX, CERT];
+
+/// A folder with these texts under the four names.
+pub fn folder_of<R: AllocGlobal>(rt: &R, texts: &[&[u8]; 4]) -> Result<MemFolder, Memory> {
+    let mut folder = MemFolder::new(rt.alloc());
+    for (name, text) in NAMES.iter().zip(texts) {
+        folder.put(name, text)?;
+    }
+    Ok(folder)
+}
+
+/// The status of the top call for these words.
+pub fn status_of<R: AllocGlobal + Threads>(
+    rt: &R,
+    words: &[&str],
+    folder: &mut MemFolder,
+    out: &mut MemSink,
+) -> Result<u8, Memory> {
+    let mut given = Vec::new(rt.alloc());
+    for word in words {
+        given.push(String::from_str(rt.alloc(), word)?)?;
+    }
+    Ok(canpack(rt, rt.alloc(), &given, folder, out, &OpenGate))
+}

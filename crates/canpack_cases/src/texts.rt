@@ -1,0 +1,146 @@
+// What `check` says of four texts.
+use crate::runs::{CHECK, NAMES, NETWORK, TWO_SIGNALS, folder_of, status_of};
+use canpack_top::canpack;
+use pack_base::{MemSink, NullSink, OpenGate, SteadyFolder};
+use std::test::Fail;
+
+/// The text of one file in the place of the accepted one, by its number from 0, with the status and what is said.
+const TEXTS: [(usize, &[u8], u8, &[u8]); 19] = [
+    (0, NETWORK, 0, b"placed\n"),
+    // The second signal begins in the last bit of the first.
+    (
+        2,
+        b"id,sender,size,ticks,header,pdu,at,signal,start,bits\n256,ECU1,2,7400,none,,0,S1,0,8\n256,ECU1,2,7400,none,,0,S2,7,8\n",
+        5,
+        b"rejected matrix\n",
+    ),
+    // Each signal in a frame of its own.
+    (
+        2,
+        b"id,sender,size,ticks,header,pdu,at,signal,start,bits\n257,ECU1,1,7000,none,,0,S1,0,8\n256,ECU1,1,7000,none,,0,S2,0,8\n",
+        0,
+        b"placed\n",
+    ),
+    // A size one step too large, ticks of another size, a signal without a row, and one of another sender.
+    (
+        2,
+        b"id,sender,size,ticks,header,pdu,at,signal,start,bits\n256,ECU1,3,7800,none,,0,S1,0,8\n256,ECU1,3,7800,none,,0,S2,8,8\n",
+        5,
+        b"rejected matrix\n",
+    ),
+    (
+        2,
+        b"id,sender,size,ticks,header,pdu,at,signal,start,bits\n256,ECU1,2,7800,none,,0,S1,0,8\n256,ECU1,2,7800,none,,0,S2,8,8\n",
+        5,
+        b"rejected matrix\n",
+    ),
+    (
+        2,
+        b"id,sender,size,ticks,header,pdu,at,signal,start,bits\n256,ECU1,1,7000,none,,0,S1,0,8\n",
+        5,
+        b"rejected matrix\n",
+    ),
+    (
+        2,
+        b"id,sender,size,ticks,header,pdu,at,signal,start,bits\n256,ECU2,2,7400,none,,0,S1,0,8\n256,ECU2,2,7400,none,,0,S2,8,8\n",
+        5,
+        b"rejected matrix\n",
+    ),
+    // Containers, I-PDUs and identifiers of the wrong range.
+    (
+        2,
+        b"id,sender,size,ticks,header,pdu,at,signal,start,bits\n256,ECU1,2,7400,short,,0,S1,0,8\n256,ECU1,2,7400,none,,0,S2,8,8\n",
+        4,
+        b"refused MATRIX\n",
+    ),
+    (
+        2,
+        b"id,sender,size,ticks,header,pdu,at,signal,start,bits\n256,ECU1,2,7400,none,1,0,S1,0,8\n256,ECU1,2,7400,none,,0,S2,8,8\n",
+        4,
+        b"refused MATRIX\n",
+    ),
+    (
+        2,
+        b"id,sender,size,ticks,header,pdu,at,signal,start,bits\n2048,ECU1,2,7400,none,,0,S1,0,8\n2048,ECU1,2,7400,none,,0,S2,8,8\n",
+        4,
+        b"refused MATRIX\n",
+    ),
+    (2, b"", 4, b"refused MATRIX\n"),
+    // A signal in an I-PDU, one named twice, and none.
+    (
+        1,
+        b"signal,sender,pdu,bits,period_us,deadline_us,jitter_us\nS1,ECU1,1,8,10000,10000,0\nS2,ECU1,,8,10000,10000,0\n",
+        4,
+        b"refused SIGNALS\n",
+    ),
+    (
+        1,
+        b"signal,sender,pdu,bits,period_us,deadline_us,jitter_us\nS1,ECU1,,8,10000,10000,0\nS1,ECU1,,8,10000,10000,0\n",
+        4,
+        b"refused SIGNALS\n",
+    ),
+    (
+        1,
+        b"signal,sender,pdu,bits,period_us,deadline_us,jitter_us\n",
+        4,
+        b"refused SIGNALS\n",
+    ),
+    // The deadline and the jitter as they are taken where they are empty.
+    (
+        1,
+        b"signal,sender,pdu,bits,period_us,deadline_us,jitter_us\nS1,ECU1,,8,10000,,\nS2,ECU1,,8,10000,,0\n",
+        0,
+        b"placed\n",
+    ),
+    (
+        3,
+        b"canpack certificate 1\nkind timed\nend\n",
+        4,
+        b"refused CERT\n",
+    ),
+    (
+        3,
+        b"canpack certificate 1\nkind placed\nend",
+        4,
+        b"refused CERT\n",
+    ),
+    (
+        3,
+        b"canpack certificate 1\nkind placed\nend\n\n",
+        4,
+        b"refused CERT\n",
+    ),
+    (3, b"", 4, b"refused CERT\n"),
+];
+
+#[test]
+fn one_text_changed(rt: HostRuntime) -> Result<(), Fail> {
+    for (number, (file, text, status, said)) in TEXTS.iter().enumerate() {
+        let mut texts = TWO_SIGNALS;
+        texts[*file] = text;
+        let mut folder = folder_of(&rt, &texts)?;
+        let mut out = MemSink::new(rt.alloc());
+        let answer = status_of(&rt, &CHECK, &mut folder, &mut out)?;
+        assert_eq!(rt; answer, *status, "text {number}");
+        assert_eq!(rt; out.said(), *said, "text {number}");
+    }
+    Ok(())
+}
+
+#[test]
+fn a_folder_that_never_fails(rt: HostRuntime) -> Result<(), Fail> {
+    let mut folder = SteadyFolder::new(rt.alloc());
+    for (name, text) in NAMES.iter().zip(&TWO_SIGNALS) {
+        folder.put(name, text)?;
+    }
+    let mut words = Vec::new(rt.alloc());
+    for word in &CHECK {
+        words.push(String::from_str(rt.alloc(), word)?)?;
+    }
+    let alloc = rt.alloc();
+    assert_eq!(rt;
+        canpack(&rt, alloc, &words, &mut folder, &mut NullSink, &OpenGate),
+        0
+    );
+    Ok(())
+}

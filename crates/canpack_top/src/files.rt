@@ -1,0 +1,77 @@
+//! The four files of a command: each is read whole, and its text read.
+ghost use Rattle.std.specs.Prelude.{◌≡◌, IfOk, IsSome, IsErrOf, All};
+ghost use Rattle.pack_model.specs.Network.{NetworkStands};
+ghost use Rattle.pack_model.specs.Signal.{IsFree, SignalStands};
+ghost use Rattle.canpack_top.specs.Check.{cert_at, matrix_at, network_at, signals_at};
+ghost use Rattle.canpack_top.specs.Ending.{Gives};
+ghost use Rattle.canpack_top.specs.Reads.{FaultAt, ReadsOnly};
+
+use crate::ending::Stop;
+use crate::line::Role;
+use crate::reading::read_file;
+use crate::texts::{cert_in, matrix_in, network_in, signals_in};
+use matrix_text::Matrix;
+use pack_base::Folder;
+use pack_model::{Network, Signal};
+use std::alloc::Global;
+
+/// The greatest length of NETWORK and of SIGNALS, in bytes.
+const TEXT_LIMIT: u64 = 16_777_216;
+
+/// The greatest length of MATRIX and of CERT, in bytes.
+const SIZE_LIMIT: u64 = (1 << 63) - 1;
+
+/// The network of a file.
+#[tactic(auto, unfolding(crate::specs::Check::network_at))]
+pub fn network_at<F: Folder>(alloc: Global, folder: &mut F, name: &str) -> Result<Network, Stop>
+    ensures exact { IsSome (F.files folder.old) → Gives (λ network. network) result (network_at (F.files folder.old) name.now) }
+    ensures stands { IfOk result NetworkStands }
+    ensures read_fault { IsErrOf result Stop.ReadFault
+        → FaultAt (F.read_faults folder.old) (F.read_faults folder.new) name.now }
+    ensures reads { IsErrOf result Stop.WriteFault → ⊥ }
+    ensures only { ReadsOnly F.files F.read_faults F.write_faults F.given folder.old folder.new }
+{
+    let text = read_file(alloc, folder, name, TEXT_LIMIT, Role::Network)?;
+    network_in(alloc, &text)
+}
+
+/// The free signals of a file.
+#[tactic(auto, unfolding(crate::specs::Check::signals_at))]
+pub fn signals_at<F: Folder>(alloc: Global, folder: &mut F, name: &str) -> Result<Vec<Signal>, Stop>
+    ensures exact { IsSome (F.files folder.old) → Gives (λ signals. signals.items) result (signals_at (F.files folder.old) name.now) }
+    ensures stand { IfOk result (λ signals. All SignalStands signals.items) }
+    ensures free { IfOk result (λ signals. All IsFree signals.items) }
+    ensures read_fault { IsErrOf result Stop.ReadFault
+        → FaultAt (F.read_faults folder.old) (F.read_faults folder.new) name.now }
+    ensures reads { IsErrOf result Stop.WriteFault → ⊥ }
+    ensures only { ReadsOnly F.files F.read_faults F.write_faults F.given folder.old folder.new }
+{
+    let text = read_file(alloc, folder, name, TEXT_LIMIT, Role::Signals)?;
+    signals_in(alloc, &text)
+}
+
+/// The matrix of a file.
+#[tactic(auto, unfolding(crate::specs::Check::matrix_at))]
+pub fn matrix_at<F: Folder>(alloc: Global, folder: &mut F, name: &str) -> Result<Matrix, Stop>
+    ensures exact { IsSome (F.files folder.old) → Gives (λ matrix. matrix) result (matrix_at (F.files folder.old) name.now) }
+    ensures read_fault { IsErrOf result Stop.ReadFault
+        → FaultAt (F.read_faults folder.old) (F.read_faults folder.new) name.now }
+    ensures reads { IsErrOf result Stop.WriteFault → ⊥ }
+    ensures only { ReadsOnly F.files F.read_faults F.write_faults F.given folder.old folder.new }
+{
+    let text = read_file(alloc, folder, name, SIZE_LIMIT, Role::Matrix)?;
+    matrix_in(alloc, &text)
+}
+
+/// Refuses a file that isn't the certificate of kind `placed`.
+#[tactic(auto, unfolding(crate::specs::Check::cert_at))]
+pub fn cert_at<F: Folder>(alloc: Global, folder: &mut F, name: &str) -> Result<(), Stop>
+    ensures exact { IsSome (F.files folder.old) → Gives (λ _. tt) result (cert_at (F.files folder.old) name.now) }
+    ensures read_fault { IsErrOf result Stop.ReadFault
+        → FaultAt (F.read_faults folder.old) (F.read_faults folder.new) name.now }
+    ensures reads { IsErrOf result Stop.WriteFault → ⊥ }
+    ensures only { ReadsOnly F.files F.read_faults F.write_faults F.given folder.old folder.new }
+{
+    let text = read_file(alloc, folder, name, SIZE_LIMIT, Role::Cert)?;
+    cert_in(&text)
+}

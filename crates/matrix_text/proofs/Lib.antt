@@ -1,0 +1,12 @@
+pub mod ApartLaws
+pub mod Bits
+pub mod Counts
+pub mod FirstRows
+pub mod FramesFound
+pub mod InOrder
+pub mod InUse
+pub mod Numbering
+pub mod OnePlaceLaws
+pub mod PlacedLaws
+pub mod RowsFound
+pub mod TextLaws
