@@ -1,4 +1,5 @@
 pub mod BySender
 pub mod Distinct
+mod GroupingValues
 pub mod Laws
 pub mod Steps
