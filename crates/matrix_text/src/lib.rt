@@ -5,8 +5,12 @@
 #![tactic(auto)]
 
 mod checks;
+mod classes;
+mod frame_rows;
+mod layout;
 mod matrix;
 mod overlap;
 mod signal_rows;
 
+pub use layout::matrix_of;
 pub use matrix::{Header, Matrix, MatrixRow};

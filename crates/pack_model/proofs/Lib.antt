@@ -1,5 +1,6 @@
 pub mod BySender
 pub mod Distinct
+pub mod GroupingLaws
 mod GroupingValues
 pub mod Laws
 pub mod Steps
