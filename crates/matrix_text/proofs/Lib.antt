@@ -2,4 +2,6 @@ pub mod ApartLaws
 pub mod Bits
 pub mod Counts
 pub mod FirstRows
+pub mod FrameSteps
+pub mod LaidSteps
 pub mod RowsFound
