@@ -19,7 +19,7 @@ use Rattle.matrix_text.specs.declared.matrix.MatrixRow.{MatrixRow}
 use Rattle.matrix_text.specs.LaidOut.{signals_at, widths_of, size_of_frame, row_with, row_in_frame, rows_of_frame}
 
 -- the place of a signal that is there
-signals_at-cons : (signals : List Signal) (p : ℕ) (places : List ℕ) (s : Signal) → p < length signals → s ≡ get_or signals p s → signals_at signals (p ∷ places) ≡ s ∷ signals_at signals places
+pub signals_at-cons : (signals : List Signal) (p : ℕ) (places : List ℕ) (s : Signal) → p < length signals → s ≡ get_or signals p s → signals_at signals (p ∷ places) ≡ s ∷ signals_at signals places
 signals_at-cons signals p places s lt at = ap (λ o. cons_option o (signals_at signals places)) (slice_get-get_or signals p s lt ∙ ap (λ t. Some t) (sym at))
 
 -- there is a signal for each place

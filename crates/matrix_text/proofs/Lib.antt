@@ -1,5 +1,6 @@
 pub mod ApartLaws
 pub mod Bits
+pub mod ClassSteps
 pub mod Counts
 pub mod FirstRows
 pub mod FrameSteps
