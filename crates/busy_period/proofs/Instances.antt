@@ -31,7 +31,8 @@ pub asks-le : (frame : Timed) (earlier later : ℕ) → earlier ≤ later → as
 asks-le frame earlier later le = mul-le-mul_right frame.ticks (div_ceil-le _ _ frame.period (omega arith))
 
 -- what a frame in range asks for within 2^46 ticks
-pub asks-bound : (frame : Timed) (time : ℕ) → IsInRange frame → time ≤ 2 ^ 46 → asks_of frame time ≤ 2 ^ 47 * 100000000
+pub asks-bound : (frame : Timed) (time : ℕ) → IsInRange frame → time ≤ 2 ^ 46
+    → asks_of frame time ≤ 2 ^ 47 * 100000000
 asks-bound frame time range le =
     let instances : instances_of frame time ≤ 2 ^ 47 =
     omega (arith, div_ceil-le_self (time + frame.jitter) frame.period range.some_period) in

@@ -9,14 +9,15 @@ use Rattle.std.specs.List.{IsDistinct, list_any}
 use Rattle.busy_period.specs.declared.timed.Timed.{Timed}
 use Rattle.busy_period.specs.Timed.{IsInRange, none_frame, frame_at}
 use Rattle.busy_period.specs.Stage.{AreNamed, IsStage, IsSameSet, own_number, own_of, higher_of, lower_of}
-use Rattle.busy_period.specs.Demand.{asks_of, work_of, blocking_of, demand_of, IsSameTest}
+use Rattle.busy_period.specs.Demand.{asks_of, work_of, blocking_of, demand_against, demand_of}
 use Rattle.busy_period.specs.Least.{IsLeast}
 use Rattle.busy_period.specs.Busy.{IsFit, IsBusy, IsShortBusy, LeastBusy}
 use Rattle.busy_period.proofs.Instances.{asks-le}
-use Rattle.busy_period.proofs.Sums.{IsDistinct-take, sum_by-same_set}
+use Rattle.busy_period.proofs.Sums.{sum_by-same_set}
 
 -- an order of a stage is no longer than its frames
-pub order_is_few : (frames : List Timed) (order : List ℕ) (place : ℕ) → IsStage frames order place → length order ≤ 128
+pub order_is_few : (frames : List Timed) (order : List ℕ) (place : ℕ) → IsStage frames order place
+    → length order ≤ 128
 order_is_few frames order place stage =
     let below : (number : ℕ) → list_any (nat_eq number) order ≡ true → number < length frames = λ number found.
     All-contains (λ i. i < length frames) order number stage.named (Contains-from_any (λ a b. eqb-true a b) number order found) in
@@ -25,19 +26,22 @@ order_is_few frames order place stage =
     omega arith
 
 -- each frame that is named is in range
-pub named_is_in_range : (frames : List Timed) (numbers : List ℕ) (index : ℕ) → AreNamed frames numbers → index < length numbers
+pub named_is_in_range : (frames : List Timed) (numbers : List ℕ) (index : ℕ) → AreNamed frames numbers
+    → index < length numbers
     → IsInRange (frame_at frames (get_or numbers index 0))
 named_is_in_range frames numbers index named inside =
     All-get_or IsInRange frames (get_or numbers index 0) none_frame (All-get_or (λ i. i < length frames) numbers index 0 inside named.named) named.in_range
 
 -- and so is the frame under test
-pub own_is_in_range : (frames : List Timed) (order : List ℕ) (place : ℕ) → IsStage frames order place → IsInRange (own_of frames order place)
+pub own_is_in_range : (frames : List Timed) (order : List ℕ) (place : ℕ) → IsStage frames order place
+    → IsInRange (own_of frames order place)
 own_is_in_range frames order place stage =
     All-get_or IsInRange frames (own_number order place) none_frame
     (All-get_or (λ i. i < length frames) order place 0 stage.inside stage.named) stage.in_range
 
 -- a part of an order names frames
-pub front_is_named : (frames : List Timed) (order : List ℕ) (place n : ℕ) → IsStage frames order place → n ≤ length order
+pub front_is_named : (frames : List Timed) (order : List ℕ) (place n : ℕ) → IsStage frames order place
+    → n ≤ length order
     → AreNamed frames (take n order)
 front_is_named frames order place n stage le =
     record {
@@ -66,10 +70,10 @@ pub work-own : (frames : List Timed) (order : List ℕ) (place time : ℕ) → p
 work-own frames order place time inside = sum_by_more (λ i. asks_of (frame_at frames i) time) order place 0 inside
 
 -- the demand never falls in time
-pub demand-le : (frames : List Timed) (order : List ℕ) (place earlier later : ℕ) → earlier ≤ later
-    → demand_of frames order place earlier ≤ demand_of frames order place later
-demand-le frames order place earlier later le =
-    omega (arith, work-le frames (higher_of order place) earlier later le, asks-le (own_of frames order place) earlier later le)
+pub demand-le : (frames : List Timed) (own : ℕ) (higher lower : List ℕ) (earlier later : ℕ) → earlier ≤ later
+    → demand_against frames own higher lower earlier ≤ demand_against frames own higher lower later
+demand-le frames own higher lower earlier later le =
+    omega (arith, work-le frames higher earlier later le, asks-le (frame_at frames own) earlier later le)
 
 -- the work of the same frames in another order
 pub work-same_set : (frames : List Timed) (numbers numbers' : List ℕ) (time : ℕ)
@@ -78,19 +82,17 @@ pub work-same_set : (frames : List Timed) (numbers numbers' : List ℕ) (time : 
 work-same_set frames numbers numbers' time = sum_by-same_set (λ i. asks_of (frame_at frames i) time) numbers numbers'
 
 -- the demand depends on the higher frames as a set, and on the lower ones by their greatest ticks
-pub demand-same_test : (frames : List Timed) (order : List ℕ) (place : ℕ) (order' : List ℕ) (place' : ℕ)
-    → IsDistinct nat_eq order → IsDistinct nat_eq order' → IsSameTest frames order place order' place'
-    → (time : ℕ) → demand_of frames order place time ≡ demand_of frames order' place' time
-demand-same_test frames order place order' place' distinct distinct' same time =
-    let work : work_of frames (higher_of order place) time ≡ work_of frames (higher_of order' place') time =
-    work-same_set frames _ _ time (IsDistinct-take place order distinct) (IsDistinct-take place' order' distinct') same.higher in
-    let own : asks_of (own_of frames order place) time ≡ asks_of (own_of frames order' place') time =
-    ap (λ i. asks_of (frame_at frames i) time) same.own in
-    omega (arith, same.lower, work, own)
+pub demand-same_sets : (frames : List Timed) (own : ℕ) (higher lower higher' lower' : List ℕ)
+    → IsDistinct nat_eq higher → IsDistinct nat_eq higher' → IsSameSet higher higher'
+    → blocking_of frames lower ≡ blocking_of frames lower'
+    → (time : ℕ) → demand_against frames own higher lower time ≡ demand_against frames own higher' lower' time
+demand-same_sets frames own higher lower higher' lower' distinct distinct' same blocked time =
+    omega (arith, blocked, work-same_set frames higher higher' time distinct distinct' same)
 
 -- up to a solution of a climb, base and work stay at most that solution
 pub fit-above : (frames : List Timed) (numbers : List ℕ) (base ahead from earlier time : ℕ)
-    → IsFit frames numbers base ahead from time → earlier ≤ time → base + work_of frames numbers (earlier + ahead) ≤ time
+    → IsFit frames numbers base ahead from time → earlier ≤ time
+    → base + work_of frames numbers (earlier + ahead) ≤ time
 fit-above frames numbers base ahead from earlier time fit le =
     omega (arith, fit.done, work-le frames numbers (earlier + ahead) (time + ahead) (omega arith))
 
@@ -114,7 +116,8 @@ fit_from_busy frames order place time inside busy =
     }
 
 -- what the climb up to the last time within 256 instances finds is the busy period
-pub busy_of_climb : (frames : List Timed) (order : List ℕ) (place limit : ℕ) (found : Option ℕ) → place < length order
+pub busy_of_climb : (frames : List Timed) (order : List ℕ) (place limit : ℕ) (found : Option ℕ)
+    → place < length order
     → limit + (own_of frames order place).jitter ≤ 256 * (own_of frames order place).period
     → IfSome found (IsLeast (IsFit frames (take (place + 1) order) (blocking_of frames (lower_of order place)) 0 1))
     → IfSome found (λ time. time ≤ limit)
@@ -130,7 +133,8 @@ busy_of_climb frames order place limit (Some time) inside short least within =
     }
 
 -- what it does not find is none
-pub none_of_climb : (frames : List Timed) (order : List ℕ) (place limit : ℕ) (found : Option ℕ) → place < length order
+pub none_of_climb : (frames : List Timed) (order : List ℕ) (place limit : ℕ) (found : Option ℕ)
+    → place < length order
     → 256 * (own_of frames order place).period ≤ limit + (own_of frames order place).jitter
     → IfNone found ((time : ℕ) → IsFit frames (take (place + 1) order) (blocking_of frames (lower_of order place)) 0 1 time → limit < time)
     → IfNone found ((time : ℕ) → ¬ (IsShortBusy (own_of frames order place) (demand_of frames order place) time))

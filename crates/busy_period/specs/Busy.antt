@@ -1,6 +1,7 @@
 use Rattle.std.specs.Prelude.{ℕ, ◌+◌, ◌*◌, ◌≤◌, List}
 use Rattle.busy_period.specs.declared.timed.Timed.{Timed}
-use Rattle.busy_period.specs.Demand.{work_of}
+use Rattle.busy_period.specs.Stage.{own_of}
+use Rattle.busy_period.specs.Demand.{work_of, demand_of}
 use Rattle.busy_period.specs.Least.{IsLeast}
 
 -- from a least time on: base ticks and all that the frames ask for within the time and a little ahead fit into it
@@ -26,3 +27,11 @@ pub record LeastBusy (own : Timed) (demand : ℕ → ℕ) (time : ℕ) : Type 0 
 pub record IsShortBusy (own : Timed) (demand : ℕ → ℕ) (time : ℕ) : Type 0 where
   pub busy : IsBusy demand time
   pub short : IsShort own time
+
+-- a busy period of the frame at a place, within 256 instances
+abbrev pub FrameBusy : List Timed → List ℕ → ℕ → ℕ → Type 0
+FrameBusy frames order place = IsShortBusy (own_of frames order place) (demand_of frames order place)
+
+-- the least busy period of the frame at a place
+abbrev pub FrameLeastBusy : List Timed → List ℕ → ℕ → ℕ → Type 0
+FrameLeastBusy frames order place = LeastBusy (own_of frames order place) (demand_of frames order place)

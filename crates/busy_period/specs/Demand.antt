@@ -1,8 +1,8 @@
-use Rattle.std.specs.Prelude.{◌≡◌, ℕ, ◌+◌, ◌*◌, List, [], ◌∷◌, max, sum_by}
+use Rattle.std.specs.Prelude.{ℕ, ◌+◌, ◌*◌, List, [], ◌∷◌, max, sum_by}
 use Rattle.std.specs.Int.{div_ceil}
 use Rattle.busy_period.specs.declared.timed.Timed.{Timed}
 use Rattle.busy_period.specs.Timed.{frame_at}
-use Rattle.busy_period.specs.Stage.{own_number, own_of, higher_of, lower_of, IsSameSet}
+use Rattle.busy_period.specs.Stage.{own_number, higher_of, lower_of}
 
 -- the most instances of a frame that are queued within a time: ceil((time + J) / T)
 abbrev pub instances_of : Timed → ℕ → ℕ
@@ -21,14 +21,13 @@ abbrev pub blocking_of : List Timed → List ℕ → ℕ
 blocking_of frames [] = 0
 blocking_of frames (number ∷ rest) = max (frame_at frames number).ticks (blocking_of frames rest)
 
--- the demand at a frame's level within a time: blocking, and the work of higher frames and of its own
-abbrev pub demand_of : List Timed → List ℕ → ℕ → ℕ → ℕ
-demand_of frames order place time =
-    blocking_of frames (lower_of order place) + work_of frames (higher_of order place) time
-    + asks_of (own_of frames order place) time
+-- the demand at the level of a frame within a time, against higher and lower ones: blocking by a lower one, and the work
+-- of the higher ones and of its own
+abbrev pub demand_against : List Timed → ℕ → List ℕ → List ℕ → ℕ → ℕ
+demand_against frames own higher lower time =
+    blocking_of frames lower + work_of frames higher time + asks_of (frame_at frames own) time
 
--- two places test the same frame against the same higher frames and the same blocking
-pub record IsSameTest (frames : List Timed) (order : List ℕ) (place : ℕ) (order' : List ℕ) (place' : ℕ) : Type 0 where
-  pub own : own_number order place ≡ own_number order' place'
-  pub higher : IsSameSet (higher_of order place) (higher_of order' place')
-  pub lower : blocking_of frames (lower_of order place) ≡ blocking_of frames (lower_of order' place')
+-- the demand at the level of the frame at a place
+abbrev pub demand_of : List Timed → List ℕ → ℕ → ℕ → ℕ
+demand_of frames order place =
+    demand_against frames (own_number order place) (higher_of order place) (lower_of order place)

@@ -3,3 +3,4 @@ pub mod Stage
 pub mod Demand
 pub mod Least
 pub mod Busy
+pub mod Checked

@@ -15,8 +15,7 @@ pub fn work(frames: &[Timed], numbers: &[u32], time: u64) -> u128
     let mut total = 0;
     for &number in numbers {
         let frame = frames[number as usize];
-        let instances = (time + frame.jitter).div_ceil(frame.period);
-        total += u128::from(instances) * u128::from(frame.ticks);
+        total += u128::from(frame.instances(time)) * u128::from(frame.ticks);
     }
     total
 }
@@ -44,12 +43,12 @@ pub fn blocking(frames: &[Timed], order: &[u32], place: usize) -> u64
     greatest_ticks(frames, &order[place + 1..])
 }
 
-/// The demand at the level of the frame at `place` within `time` ticks: the greatest ticks of a lower frame, and what
-/// it and the higher frames ask for. `time` is at most 2^45.
-pub fn demand(frames: &[Timed], order: &[u32], place: usize, time: u64) -> u128
+/// The demand at the level of the frame at `place` within `t` ticks: the greatest ticks of a lower frame, and what
+/// it and the higher frames ask for. `t` is at most 2^45.
+pub fn demand(frames: &[Timed], order: &[u32], place: usize, t: u64) -> u128
     requires stage { IsStage frames.now order.now place }
-    requires time { time ≤ 2 ^ 45 }
-    ensures { result ≡ demand_of frames.now order.now place time }
+    requires time { t ≤ 2 ^ 45 }
+    ensures { result ≡ demand_of frames.now order.now place t }
 {
-    u128::from(blocking(frames, order, place)) + work(frames, &order[..place + 1], time)
+    u128::from(blocking(frames, order, place)) + work(frames, &order[..place + 1], t)
 }

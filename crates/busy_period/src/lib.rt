@@ -3,7 +3,8 @@
 //! A *stage* is a list of frames, an order of some of their numbers from the highest priority to the lowest, and a
 //! place in it. The frame at the place is under test; those before it are higher, those after it lower. All times are
 //! whole ticks. The demand is that of Davis, Burns, Bril and Lukkien, "Controller Area Network (CAN) schedulability
-//! analysis" (2007); that a busy period counts only within 256 instances is a rule of this repository.
+//! analysis: Refuted, revisited and revised" (2007); that a busy period counts only within 256 instances is a rule of
+//! this repository.
 //!
 //! No call takes memory, and each returns for every stage.
 #![tactic(auto)]
@@ -11,9 +12,11 @@
 mod laws;
 mod level;
 mod period;
+#[cfg(test)]
+mod tests;
 mod timed;
 
 pub use laws::{demand_depends_on_sets, demand_never_falls};
 pub use level::{blocking, demand, work};
-pub use period::{busy_holds, least_busy, least_fit};
+pub use period::{MAX_INSTANCES, busy_holds, least_busy, least_fit};
 pub use timed::Timed;

@@ -1,14 +1,13 @@
 ghost use Rattle.std.specs.Prelude.{ℕ, ◌≤◌, ◌<◌, ◌+◌, ◌*◌, ◌^◌, ◌↔◌, IsTrue, IfSome, IfNone};
-ghost use Rattle.busy_period.specs.Stage.{AreNamed, IsStage, own_of};
-ghost use Rattle.busy_period.specs.Demand.{demand_of};
+ghost use Rattle.busy_period.specs.Stage.{AreNamed, IsStage};
 ghost use Rattle.busy_period.specs.Least.{IsLeast};
-ghost use Rattle.busy_period.specs.Busy.{IsFit, LeastBusy, IsShortBusy};
+ghost use Rattle.busy_period.specs.Busy.{IsFit, FrameBusy, FrameLeastBusy};
 
 use crate::level::{blocking, demand, work};
 use crate::timed::Timed;
 
 /// The most instances of a frame in a busy period that counts.
-const INSTANCES: u64 = 256;
+pub const MAX_INSTANCES: u64 = 256;
 
 /// The least time from `from` to `limit` into which `base` ticks and all that the frames ask for within the time and
 /// `ahead` ticks more fit; None exactly where there is none up to `limit`. It climbs from below.
@@ -45,25 +44,23 @@ pub fn least_fit(
 /// for within it is done. None exactly where there is none within 256 instances.
 pub fn least_busy(frames: &[Timed], order: &[u32], place: usize) -> Option<u64>
     requires { IsStage frames.now order.now place }
-    ensures least { IfSome result (LeastBusy (own_of frames.now order.now place) (demand_of frames.now order.now place)) }
-    ensures none { IfNone result
-        ((time : ℕ) → ¬ (IsShortBusy (own_of frames.now order.now place) (demand_of frames.now order.now place) time)) }
+    ensures least { IfSome result (FrameLeastBusy frames.now order.now place) }
+    ensures none { IfNone result ((time : ℕ) → ¬ (FrameBusy frames.now order.now place time)) }
 {
     let own = frames[order[place] as usize];
-    let limit = (INSTANCES * own.period).checked_sub(own.jitter)?;
+    let limit = (MAX_INSTANCES * own.period).checked_sub(own.jitter)?;
     let blocked = blocking(frames, order, place);
     least_fit(frames, &order[..place + 1], blocked, 0, 1, limit)
 }
 
-/// Whether `time` is a busy period of the frame at `place` within 256 instances, not needing to be the least.
-pub fn busy_holds(frames: &[Timed], order: &[u32], place: usize, time: u64) -> bool
+/// Whether `t` is a busy period of the frame at `place` within 256 instances, not needing to be the least.
+pub fn busy_holds(frames: &[Timed], order: &[u32], place: usize, t: u64) -> bool
     requires { IsStage frames.now order.now place }
-    ensures { IsTrue result
-        ↔ IsShortBusy (own_of frames.now order.now place) (demand_of frames.now order.now place) time }
+    ensures { IsTrue result ↔ FrameBusy frames.now order.now place t }
 {
     let own = frames[order[place] as usize];
-    time >= 1
-        && time <= INSTANCES * own.period
-        && time + own.jitter <= INSTANCES * own.period
-        && demand(frames, order, place, time) <= u128::from(time)
+    t >= 1
+        && t <= MAX_INSTANCES * own.period
+        && t + own.jitter <= MAX_INSTANCES * own.period
+        && demand(frames, order, place, t) <= u128::from(t)
 }

@@ -10,3 +10,19 @@ pub struct Timed {
     /// The time from an arrival by which its sending is to have ended, from 1 to 10^11.
     pub deadline: u64,
 }
+
+impl Timed {
+    ghost use Rattle.std.specs.Prelude.{◌≡◌, ◌≤◌, ◌^◌};
+    ghost use Rattle.busy_period.specs.Timed.{IsInRange};
+    ghost use Rattle.busy_period.specs.Demand.{instances_of};
+
+    /// The most instances of the frame that are queued within `time` ticks: those that arrive within the time and the
+    /// jitter before it. `time` is at most 2^46.
+    pub fn instances(self, time: u64) -> u64
+        requires range { IsInRange self }
+        requires time { time ≤ 2 ^ 46 }
+        ensures { result ≡ instances_of self time }
+    {
+        (time + self.jitter).div_ceil(self.period)
+    }
+}

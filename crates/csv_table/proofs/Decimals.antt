@@ -1,8 +1,8 @@
 -- Laws on decimals: a number's spelling is read as it, and nothing else is.
-use Rattle.std.proofs.Common.{◌≡◌, ◌≢◌, ◌≤◌, ◌<◌, ℕ, zero, suc, ◌+◌, ◌*◌, ◌-◌, ◌^◌, ◌==◌, ◌&&◌, ◌||◌, Bool, true, false, not, cond, List, [], ◌∷◌, length, get_or, drop, Option, Some, None, refl, sym, ap, rules, arith, ◌∙◌, drop-cons, add-one, nat_le, decimal, inl, inr}
+use Rattle.std.proofs.Common.{◌≡◌, ◌≤◌, ◌<◌, ℕ, zero, suc, ◌+◌, ◌*◌, ◌-◌, ◌^◌, ◌==◌, ◌||◌, Bool, true, false, not, cond, List, [], ◌∷◌, length, get_or, drop, Some, None, refl, sym, rules, arith, drop-cons, add-one, nat_le, decimal}
 use Rattle.std.specs.Prelude.{IfSome}
 use Rattle.std.specs.Str.{all_ascii_digits}
-use Rattle.std.proofs.lemmas.Bool.{and_parts, cases_Bool, eqb-true, leb-true, le-leb, eq-eqb, ne_eqb}
+use Rattle.std.proofs.lemmas.Bool.{and_parts, eqb-true, leb-true, le-leb, eq-eqb, ne_eqb}
 use Rattle.std.proofs.lemmas.Fmt.{decimal-digits_value, decimal_digit, decimal_nonempty, digits_decimal, digits_value-decimal, first_decimal}
 use Rattle.std.proofs.lemmas.Str.Parse.{IsNumeralModel, numerals_by_fold, tells_all_ascii_digits}
 use Rattle.csv_table.specs.Decimal.{decimal_of, is_decimal, value_after}
@@ -44,11 +44,11 @@ chosen_some false n P h = tt
 pub decimal_of-spelled : (low high : ℕ) (bytes : List ℕ) → high < 2 ^ 60 → IfSome (decimal_of low high bytes) (λ n. (bytes ≡ decimal n) × (low ≤ n) × (n ≤ high))
 decimal_of-spelled low high bytes small =
     chosen_some _ (value_after 0 bytes) (λ n. (bytes ≡ decimal n) × (low ≤ n) × (n ≤ high)) (λ e.
-        let outer = and_parts _ _ e in
-        let inner = and_parts _ _ outer.0 in
-        let above : low ≤ value_after 0 bytes = leb-true _ _ inner.1 in
-        let below : value_after 0 bytes ≤ high = leb-true _ _ outer.1 in
-        (is_decimal-spelled bytes inner.0 (omega arith), above, below))
+    let outer = and_parts _ _ e in
+    let inner = and_parts _ _ outer.0 in
+    let above : low ≤ value_after 0 bytes = leb-true _ _ inner.1 in
+    let below : value_after 0 bytes ≤ high = leb-true _ _ outer.1 in
+    (is_decimal-spelled bytes inner.0 (omega arith), above, below))
 
 -- the first digit tells
 lead : (n : ℕ) → n < 2 ^ 64 → ((length (decimal n) == 1) || not (get_or (decimal n) 0 0 == 48)) ≡ true

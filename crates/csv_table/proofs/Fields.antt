@@ -1,5 +1,5 @@
 -- Laws on the fields of a record.
-use Rattle.std.proofs.Common.{◌≡◌, ℕ, zero, suc, List, [], ◌∷◌, get_or, Option, Some, None, refl}
+use Rattle.std.proofs.Common.{◌≡◌, ℕ, zero, suc, List, [], ◌∷◌, get_or, refl}
 use Rattle.std.specs.Prelude.{unwrap_or}
 use Rattle.csv.specs.Records as records
 

@@ -3,3 +3,4 @@ pub mod Decimals
 pub mod Fields
 pub mod RoundTrip
 pub mod Ranges
+pub mod Loop

@@ -1,7 +1,7 @@
 -- What a column that was read says of its value, and that a written value is read back.
-use Rattle.std.proofs.Common.{◌≡◌, ◌≤◌, ◌<◌, ◌^◌, ◌==◌, ℕ, Bool, true, false, cond, List, [], length, Option, Some, None, Result, Ok, Err, refl, ap, arith, decimal, inl, inr}
-use Rattle.std.specs.Prelude.{IfOk, IfSome}
-use Rattle.std.proofs.lemmas.Bool.{cases_Bool, ne_eqb}
+use Rattle.std.proofs.Common.{◌≡◌, ◌≤◌, ◌<◌, ◌^◌, ◌==◌, ℕ, Bool, true, false, cond, List, length, Option, Some, None, Result, Ok, Err, refl, arith, decimal}
+use Rattle.std.specs.Prelude.{IfOk, IfSome, OnOk}
+use Rattle.std.proofs.lemmas.Bool.{ne_eqb}
 use Rattle.std.proofs.lemmas.Fmt.{decimal_nonempty}
 use Rattle.pack_model.specs.Name.{IsName, is_name}
 use Rattle.csv_table.specs.Columns.{◌>>=◌, field_in, name_in, number_in, optional_in, or_error}
@@ -52,3 +52,13 @@ optional_back low high k n fields e small above below =
 
 pub name_back : (k : ℕ) (name : List ℕ) (fields : List (List ℕ)) → field_in k fields ≡ name → is_name name ≡ true → name_in k fields ≡ Ok name
 name_back k name fields e is = rw (e, is) refl
+
+-- what holds anyway holds where the call succeeds
+pub anyway : {P T E : Type 0} (r : Result T E) → P → OnOk r P
+anyway (Ok x) p = p
+anyway (Err e) p = tt
+
+-- the greatest number of 32 bits
+pub below_32_bits : (o : Option ℕ) → IfSome o (λ n. n < 2 ^ 32) → IfSome o (λ n. n ≤ 4294967295)
+below_32_bits None h = tt
+below_32_bits (Some n) h = omega (arith, h)

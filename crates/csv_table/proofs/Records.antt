@@ -1,17 +1,16 @@
 -- Laws on the records of a text: each leaves fewer bytes, and the machine between two records.
-use Rattle.std.proofs.Common.{◌≡◌, ◌≤◌, ◌<◌, ℕ, zero, suc, ◌+◌, ◌==◌, ◌||◌, ◌&&◌, Bool, true, false, not, cond, List, [], ◌∷◌, ◌++◌, length, map, Option, Some, None, refl, sym, ap, subst, arith, ◌∙◌, inl, inr}
-use Rattle.std.specs.Prelude.{◌⊎◌, if◌then◌else◌}
+use Rattle.std.proofs.Common.{◌≡◌, ◌≤◌, ◌<◌, ℕ, zero, suc, ◌+◌, ◌==◌, ◌||◌, Bool, true, false, not, cond, List, [], ◌∷◌, length, Option, Some, None, refl, sym, ap, subst, arith, ◌∙◌, inl, inr}
 use Rattle.std.proofs.lemmas.Bool.{cases_Bool}
 use Rattle.csv.specs.Machine.{Read, ends_at_end, field_after, fields_after, in_field, is_end, next_record, start_field, start_record, step}
-use Rattle.csv.specs.Reading.{default_config, records_from, records_next}
+use Rattle.csv.specs.Reading.{default_config, is_bom, records_from, records_next, strip_bom}
 use Rattle.csv.specs.declared.parser.State.{State}
 use Rattle.csv.specs.declared.parser.State.TheVariants as st
 use Rattle.csv.specs.declared.parser.Action.{Action}
 use Rattle.csv.specs.declared.parser.Action.TheVariants as act
 use Rattle.csv.specs.Reading.{NextIs, ReadRecord, ReadsNext, is_flexible, pending_of, source_of, took_first}
 use Rattle.csv.specs.declared.reader.Reader.{Reader}
-use Rattle.csv_table.specs.Inside.{IsOpen, rows_from, rows_left}
-use Rattle.csv_table.specs.Rows.{Takes}
+use Rattle.csv_table.specs.Inside.{IsOpen, records_left, rows_left}
+use Rattle.csv_table.specs.Rows.{Takes, rows_of}
 
 -- a step that ends a record leaves the machine between two
 abbrev EndsBetween : State × Action → Type 0
@@ -110,7 +109,7 @@ turns (suc n) (suc m) s xs between h k = by (next_record default_config s [] [] 
 
 -- the first record and the others
 pub rows_first : (s : State) (xs : List ℕ) (p : Read) → ends_at_end s ≡ false → next_record default_config s [] [] xs ≡ Some p
-    → (rows_from s (Some xs) ≡ p.0 ∷ rows_from p.1 (Some p.2)) × (ends_at_end p.1 ≡ false)
+    → (records_left s (Some xs) ≡ p.0 ∷ records_left p.1 (Some p.2)) × (ends_at_end p.1 ≡ false)
 unfolding records_from
 rows_first s xs p between e =
     let t = record_takes s xs p between e in
@@ -118,7 +117,7 @@ rows_first s xs p between e =
     (rw (n, e) (ap (λ (rows : List (List (List ℕ))). p.0 ∷ rows) (turns (length xs) (length p.2 + 1) p.1 p.2 t.0 t.1 (omega arith))), t.0)
 
 -- no record
-pub rows_none : (s : State) (xs : List ℕ) → next_record default_config s [] [] xs ≡ None → rows_from s (Some xs) ≡ []
+pub rows_none : (s : State) (xs : List ℕ) → next_record default_config s [] [] xs ≡ None → records_left s (Some xs) ≡ []
 unfolding records_from
 rows_none s xs e =
     let n : length xs + 1 ≡ suc (length xs) = omega arith in
@@ -132,12 +131,12 @@ next_none : (o : Option Read) (f : List (List ℕ)) (s : State) (z : List ℕ) �
 next_none None f s z h = refl
 next_none (Some p) f s z h = absurd cc
 
-joined : (rows : List (List (List ℕ))) (f g : List (List ℕ)) (s u : State) (y z : List ℕ) → f ≡ g → s ≡ u → y ≡ z → rows ≡ g ∷ rows_from u (Some z) → rows ≡ f ∷ rows_from s (Some y)
+joined : (rows : List (List (List ℕ))) (f g : List (List ℕ)) (s u : State) (y z : List ℕ) → f ≡ g → s ≡ u → y ≡ z → rows ≡ g ∷ records_left u (Some z) → rows ≡ f ∷ records_left s (Some y)
 joined rows f g s u y z a b c h = rw (a, b, c) h
 
 -- a read that found a record took the first, and leaves the others
 rows_after : (s s2 : State) (bytes : List ℕ) (left : Option (List ℕ)) (f : List (List ℕ)) → ends_at_end s ≡ false → ReadsNext default_config s (Some bytes) left true f s2
-    → (z : List ℕ) × (left ≡ Some z) × (ends_at_end s2 ≡ false) × (rows_from s (Some bytes) ≡ f ∷ rows_from s2 (Some z))
+    → (z : List ℕ) × (left ≡ Some z) × (ends_at_end s2 ≡ false) × (records_left s (Some bytes) ≡ f ∷ records_left s2 (Some z))
 rows_after s s2 bytes None f between h = absurd h
 rows_after s s2 bytes (Some z) f between h =
     let (p, next, f_is, s_is, z_is) = next_some _ f s2 z h in
@@ -145,7 +144,7 @@ rows_after s s2 bytes (Some z) f between h =
     (z, refl, rw s_is rows.1, joined _ f p.0 s2 p.1 z p.2 f_is s_is z_is rows.0)
 
 -- a read that found none
-rows_ended : (s s2 : State) (bytes : List ℕ) (left : Option (List ℕ)) (f : List (List ℕ)) → ReadsNext default_config s (Some bytes) left false f s2 → rows_from s (Some bytes) ≡ []
+rows_ended : (s s2 : State) (bytes : List ℕ) (left : Option (List ℕ)) (f : List (List ℕ)) → ReadsNext default_config s (Some bytes) left false f s2 → records_left s (Some bytes) ≡ []
 rows_ended s s2 bytes None f h = absurd h
 rows_ended s s2 bytes (Some z) f h = rows_none s bytes (next_none _ f s2 z h)
 
@@ -155,8 +154,7 @@ pub took : {R : Type 0} (rem : R → Option (List ℕ)) (a b : Reader R) (f : Li
 took rem a b f is_open read first flexible =
     let (bytes, known) = is_open.known in
     let (z, left, between, rows) = rows_after a.state b.state bytes (pending_of (rem b.rdr) b) f is_open.between (rw (is_open.config, known) at read.0) in
-    let source : source_of rem b ≡ Some z = rw read.1 left in
-    (
+    let source : source_of rem b ≡ Some z = rw read.1 left in (
       record {
         config = read.2 ∙ is_open.config;
         trim = read.3 ∙ is_open.trim;
@@ -165,7 +163,7 @@ took rem a b f is_open read first flexible =
         between = between;
         known = (z, source);
       },
-      ap (rows_from a.state) known ∙ rows ∙ ap (λ (o : Option (List ℕ)). f ∷ rows_from b.state o) (sym source),
+      ap (records_left a.state) known ∙ rows ∙ ap (λ (o : Option (List ℕ)). f ∷ records_left b.state o) (sym source),
     )
 
 -- a read says what it took
@@ -174,4 +172,28 @@ pub takes : {R : Type 0} (rem : R → Option (List ℕ)) (a b : Reader R) (found
 takes rem a b true f is_open read first flexible = (took rem a b f is_open read first flexible).1
 takes rem a b false f is_open read first flexible =
     let (bytes, known) = is_open.known in
-    (ap (rows_from a.state) known ∙ rows_ended a.state b.state bytes (pending_of (rem b.rdr) b) f (rw (is_open.config, known) at read.0), refl)
+    (ap (records_left a.state) known ∙ rows_ended a.state b.state bytes (pending_of (rem b.rdr) b) f (rw (is_open.config, known) at read.0), refl)
+
+-- no more records than turns
+next_few : (n : ℕ) (o : Option Read) → ((s : State) (xs : List ℕ) → length (records_from default_config n s xs) ≤ n) → length (records_next (records_from default_config n) o) ≤ suc n
+next_few n None h = omega arith
+next_few n (Some p) h = omega (arith, h p.1 p.2)
+
+records_few : (n : ℕ) (s : State) (xs : List ℕ) → length (records_from default_config n s xs) ≤ n
+unfolding records_from
+records_few zero s xs = omega arith
+records_few (suc n) s xs = next_few n (next_record default_config s [] [] xs) (λ q z. records_few n q z)
+
+stripped_few : (xs : List ℕ) → length (strip_bom xs) ≤ length xs
+unfolding strip_bom
+stripped_few [] = omega arith
+stripped_few (a ∷ []) = omega arith
+stripped_few (a ∷ b ∷ []) = omega arith
+stripped_few (a ∷ b ∷ c ∷ rest) = elim (cases_Bool (is_bom a b c)) [
+  | inl e ↦ rw e (omega arith)
+  | inr e ↦ rw e (omega arith)
+]
+
+-- no more records than bytes and one
+pub rows_few : (text : List ℕ) → length (rows_of text) ≤ length text + 1
+rows_few text = omega (arith, records_few (length (strip_bom text) + 1) st.StartRecord (strip_bom text), stripped_few text)

@@ -1,18 +1,17 @@
 -- What is written is read back, record by record.
-use Rattle.std.proofs.Common.{◌≡◌, ℕ, ◌==◌, Bool, true, false, cond, List, [], ◌∷◌, ◌++◌, map, Some, refl, sym, ap, ◌∙◌, append_assoc, inl, inr}
-use Rattle.std.proofs.lemmas.Bool.{cases_Bool}
+use Rattle.std.proofs.Common.{◌≡◌, ◌<◌, ℕ, ◌+◌, ◌==◌, add-one, drop, drop-cons, get_or, length, Bool, true, false, cond, List, [], ◌∷◌, ◌++◌, map, Some, refl, sym, ap, ◌∙◌, append_assoc}
 use Rattle.csv.specs.Machine.{next_record}
 use Rattle.csv.specs.Reading.{records_from, strip_bom}
 use Rattle.csv.specs.Writing.{default_writer, fields_text, needs_quotes, quoted, read_back, row_text}
 use Rattle.csv.specs.declared.parser.State.TheVariants as st
 use Rattle.csv.proofs.RoundTrip.{read-write}
-use Rattle.csv_table.specs.Inside.{rows_from}
+use Rattle.csv_table.specs.Inside.{records_left}
 use Rattle.csv_table.specs.Rows.{rows_of}
 use Rattle.csv_table.specs.Writing.{rows_text}
-use Rattle.csv_table.proofs.Records.{rows_first, rows_none}
+use Rattle.csv_table.proofs.Records.{rows_first}
 
 -- the records of written records
-rows_back : (rows : List (List (List ℕ))) → rows_from st.StartRecord (Some (rows_text rows)) ≡ map read_back rows
+rows_back : (rows : List (List (List ℕ))) → records_left st.StartRecord (Some (rows_text rows)) ≡ map read_back rows
 unfolding records_from next_record
 rows_back [] = refl
 rows_back (row ∷ rows) =
@@ -48,9 +47,21 @@ row_mark b name names rest e =
 pub rows_of-rows_text : (b : ℕ) (name : List ℕ) (names : List (List ℕ)) (rows : List (List (List ℕ))) → (b == 0xEF) ≡ false
     → rows_of (rows_text (((b ∷ name) ∷ names) ∷ rows)) ≡ ((b ∷ name) ∷ names) ∷ map read_back rows
 rows_of-rows_text b name names rows e =
-    ap (λ (text : List ℕ). rows_from st.StartRecord (Some text)) (row_mark b name names (rows_text rows) e) ∙ rows_back (((b ∷ name) ∷ names) ∷ rows)
+    ap (λ (text : List ℕ). records_left st.StartRecord (Some text)) (row_mark b name names (rows_text rows) e) ∙ rows_back (((b ∷ name) ∷ names) ∷ rows)
 
 -- records that have fields read back as they are
 pub map_read_back : {A : Type 0} (f : A → List (List ℕ)) → ((x : A) → read_back (f x) ≡ f x) → (xs : List A) → map read_back (map f xs) ≡ map f xs
 map_read_back f h [] = refl
 map_read_back f h (x ∷ xs) = rw (h x, map_read_back f h xs) refl
+
+-- one more row: the text so far and that of the rows that are left are the whole
+pub text_more : {A : Type 0} (f : A → List (List ℕ)) (xs : List A) (i : ℕ) (x : A) (before after total : List ℕ) → i < length xs → x ≡ get_or xs i x
+    → after ≡ before ++ row_text default_writer (f x) → before ++ rows_text (map f (drop i xs)) ≡ total → after ++ rows_text (map f (drop (i + 1) xs)) ≡ total
+text_more f xs i x before after total lt at step whole =
+    let split : before ++ rows_text (map f (drop i xs)) ≡ before ++ (row_text default_writer (f x) ++ rows_text (map f (drop (i + 1) xs))) =
+    rw (add-one, drop-cons xs i x, ← at) refl in
+    ap (λ (t : List ℕ). t ++ rows_text (map f (drop (i + 1) xs))) step ∙ append_assoc before (row_text default_writer (f x)) _ ∙ sym split ∙ whole
+
+-- a header and rows, as they were written one after the other
+pub written : (text after header start head rows : List ℕ) → text ≡ after → after ≡ header ++ rows → header ≡ start ++ head → start ≡ [] → text ≡ head ++ rows
+written text after header start head rows a b c d = a ∙ b ∙ ap (λ (x : List ℕ). x ++ rows) (c ∙ ap (λ (x : List ℕ). x ++ head) d)

@@ -7,13 +7,13 @@ use Rattle.csv.specs.declared.reader.Reader.{Reader}
 use Rattle.csv.specs.declared.reader.Trim.TheVariants as trim
 
 -- the records that a text has from a state of the machine on
-abbrev pub rows_from : State → Option (List ℕ) → List (List (List ℕ))
-rows_from s None = []
-rows_from s (Some bytes) = records_from default_config (length bytes + 1) s bytes
+abbrev pub records_left : State → Option (List ℕ) → List (List (List ℕ))
+records_left s None = []
+records_left s (Some bytes) = records_from default_config (length bytes + 1) s bytes
 
 -- the records that a reader has left, if it has not ended
 abbrev pub rows_left : {R : Type 0} → (R → Option (List ℕ)) → Bool → Reader R → List (List (List ℕ))
-rows_left rem ended r = if ended then [] else rows_from (reader_state r) (source_of rem r)
+rows_left rem ended r = if ended then [] else records_left (reader_state r) (source_of rem r)
 
 -- a reader with the format's settings that stands between two records of known bytes
 pub record IsOpen {R : Type 0} (rem : R → Option (List ℕ)) (r : Reader R) : Type 0 where

@@ -1,5 +1,5 @@
 //! The columns of a record.
-ghost use Rattle.std.specs.Prelude.{◌≡◌, ◌-◌, ◌==◌, ℕ, List, [], length, map, slice_index_or, IfOk};
+ghost use Rattle.std.specs.Prelude.{◌≡◌, ◌-◌, ◌==◌, ◌<◌, ◌≤◌, ◌^◌, ℕ, List, [], length, map, slice_index_or, IfOk};
 ghost use Rattle.std.specs.Str.{bytes_eq};
 ghost use Rattle.std.specs.Cmp.Lexicographic.{pointwise};
 ghost use Rattle.csv.specs.Records.{fields_of};
@@ -73,13 +73,24 @@ pub fn name_at(alloc: Global, row: &ByteRecord, column: u8) -> Result<Name, Colu
 }
 
 /// A column with a decimal from `low` to `high`.
-pub fn number_at(row: &ByteRecord, column: u8, low: u32, high: u32) -> Result<u32, ColumnFault>
-    ensures { Gives (λ x. x) column_of result (number_in low high column (fields_of row.now)) }
+pub fn wide_number_at(row: &ByteRecord, column: u8, low: u64, high: u64) -> Result<u64, ColumnFault>
+    requires { high < 2 ^ 60 }
+    ensures exact { Gives (λ x. x) column_of result (number_in low high column (fields_of row.now)) }
+    ensures in_range { IfOk result (λ n. n ≤ high) }
 {
-    match decimal_in(field_at(row, column), u64::from(low), u64::from(high)) {
-        Some(number) => Ok(number as u32),
+    match decimal_in(field_at(row, column), low, high) {
+        Some(number) => Ok(number),
         None => Err(ColumnFault::Column(column)),
     }
+}
+
+/// A column with a decimal from `low` to `high`.
+pub fn number_at(row: &ByteRecord, column: u8, low: u32, high: u32) -> Result<u32, ColumnFault>
+    ensures exact { Gives (λ x. x) column_of result (number_in low high column (fields_of row.now)) }
+    ensures in_range { IfOk result (λ n. n ≤ high) }
+{
+    let number = wide_number_at(row, column, u64::from(low), u64::from(high))?;
+    Ok(number as u32)
 }
 
 /// A column that is empty, or has a decimal from `low` to `high`.

@@ -9,7 +9,12 @@ mod decimal;
 mod rows;
 mod writing;
 
-pub use columns::{ColumnFault, count_at, field_at, has_fields, name_at, number_at, optional_at};
+pub use columns::{
+    ColumnFault, count_at, field_at, has_fields, name_at, number_at, optional_at, wide_number_at,
+};
 pub use decimal::decimal_in;
 pub use rows::Rows;
 pub use writing::RowsWriter;
+
+#[cfg(test)]
+mod tests;

@@ -1,9 +1,11 @@
 //! The records of a text.
-ghost use Rattle.std.specs.Prelude.{◌≡◌, IfOk, OnErr, [], Some, true, false, not};
+ghost use Rattle.std.specs.Prelude.{◌≡◌, ◌≤◌, ◌+◌, length, map, drop, IfOk, OnErr, OnOk, [], Some, true, false, not};
 ghost use Rattle.csv.specs.Records.{fields_of};
 ghost use Rattle.csv_table.specs.Rows.{rows_of, Takes};
+ghost use Rattle.csv_table.specs.Columns.{begins_with};
 ghost use Rattle.csv_table.specs.Inside.{rows_left, IsOpen};
 
+use crate::columns::has_fields;
 use csv::{ByteRecord, ErrorKind, Reader, ReaderBuilder};
 use pack_model::Memory;
 use std::alloc::Global;
@@ -46,7 +48,8 @@ fn take(reader: &mut Reader<&[u8]>, row: &mut ByteRecord) -> Result<bool, Memory
 impl<'a> Rows<'a> {
     /// The records of a text of CSV, a byte order mark at its front passed over.
     pub fn of_text(alloc: Global, text: &'a [u8]) -> Rows<'a>
-        ensures { result ≡ rows_of text.now }
+        ensures rows { result ≡ rows_of text.now }
+        ensures few { length result ≤ length text.now + 1 }
     {
         Rows {
             reader: ReaderBuilder::new()
@@ -67,5 +70,14 @@ impl<'a> Rows<'a> {
             self.ended = !take(&mut self.reader, row)?;
         }
         Ok(!self.ended)
+    }
+
+    /// Takes the next record into `row`, and says whether there is one and it has exactly these fields.
+    pub fn next_is(&mut self, row: &mut ByteRecord, fields: &[&[u8]]) -> Result<bool, Memory>
+        ensures is { IfOk result (λ is. is ≡ begins_with (map (λ f. f.now) fields.now) self.old) }
+        ensures rest { OnOk result (self.new ≡ drop 1 self.old) }
+    {
+        let found = self.next(row)?;
+        Ok(found && has_fields(row, fields))
     }
 }

@@ -1,5 +1,5 @@
 //! The text of records.
-ghost use Rattle.std.specs.Prelude.{◌≡◌, ◌++◌, ◌∷◌, [], map, decimal, false, Some, OnOk, IfOk};
+ghost use Rattle.std.specs.Prelude.{◌≡◌, ◌<◌, ◌^◌, ◌++◌, ◌∷◌, [], map, decimal, false, Some, OnOk, IfOk, IfSome};
 ghost use Rattle.csv.specs.Records.{fields_of, partial_of};
 ghost use Rattle.csv.specs.Writing.{default_writer, row_text};
 ghost use Rattle.csv_table.specs.Writing.{IsFresh, optional_text, text_in};
@@ -95,6 +95,8 @@ impl RowsWriter {
     pub fn optional(&mut self, number: Option<u32>) -> Result<(), Memory>
         ensures text { OnOk result (self.new.text ≡ self.old.text) }
         ensures row { OnOk result (self.new.row ≡ self.old.row ++ optional_text number ∷ []) }
+        // A number is below 2 ^ 32 by its type.
+        ensures fits { IfSome number (λ n. n < 2 ^ 32) }
     {
         match number {
             None => self.field(b""),
@@ -115,6 +117,18 @@ impl RowsWriter {
         self.row.clear();
         self.failed = false;
         Ok(())
+    }
+
+    /// Adds a whole record, where none is at hand.
+    pub fn row(&mut self, fields: &[&[u8]]) -> Result<(), Memory>
+        requires { self.old.row ≡ [] }
+        ensures text { OnOk result (self.new.text ≡ self.old.text ++ row_text default_writer (map (λ f. f.now) fields.now)) }
+        ensures row { OnOk result (self.new.row ≡ []) }
+    {
+        for field in fields {
+            self.field(field)?;
+        }
+        self.end()
     }
 
     /// The text of the records that were ended.

@@ -1,1 +1,5 @@
+pub mod Bits
+pub mod Line
+pub mod Stuffing
+pub mod Ticks
 pub mod Worst

@@ -5,6 +5,14 @@
 //! bytes lasts longer.
 #![tactic(auto)]
 
+mod bits;
+mod frame;
+mod line;
 mod worst;
 
+pub use bits::frame_bits;
+pub use frame::{real_ticks, stuffed_ticks};
 pub use worst::{MAX_TICKS, worst_ticks};
+
+#[cfg(test)]
+mod tests;

@@ -1,2 +1,3 @@
-pub mod SignalRows
 pub mod SignalLaws
+pub mod NetworkLaws
+pub mod NetworkBack

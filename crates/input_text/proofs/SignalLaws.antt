@@ -1,20 +1,21 @@
 -- The laws of the text of signals: what is read stands, and what is written is read.
-use Rattle.std.proofs.Common.{◌≡◌, ◌≤◌, ◌<◌, ◌+◌, ◌==◌, ◌∷◌, ℕ, zero, suc, Bool, true, false, cond, List, [], length, map, Option, Some, None, Result, Ok, Err, refl, sym, ap, ◌∙◌, arith, decimal, codes, inl, inr}
-use Rattle.std.specs.Prelude.{IfOk, IfSome, IsTrue, All, unwrap_or}
+use Rattle.std.proofs.Common.{◌≡◌, ◌≤◌, ◌<◌, ◌+◌, ◌==◌, ◌∷◌, ℕ, Bool, true, false, cond, List, [], length, drop, map, Option, Some, None, Result, Ok, Err, refl, ap, ◌∙◌, arith, decimal, codes, inl, inr}
+use Rattle.std.specs.Prelude.{IfOk, IfSome, All, unwrap_or}
 use Rattle.std.specs.List.{AllByRecursion}
 use Rattle.std.specs.Global.{Vec}
-use Rattle.std.proofs.lemmas.Bool.{cases_Bool, eqb-true, ne_eqb}
+use Rattle.std.proofs.lemmas.Bool.{cases_Bool, ne_eqb}
 use Rattle.std.proofs.lemmas.List.Elements.{All-from_recursion, All-weaker, recursion_from_All}
-use Rattle.pack_model.specs.Name.{IsName, is_name}
+use Rattle.pack_model.specs.Name.{IsName}
 use Rattle.pack_model.specs.Signal.{SignalStands}
 use Rattle.pack_model.specs.declared.signal.Signal.{Signal}
-use Rattle.csv_table.specs.Columns.{◌>>=◌, count_in, is_row, name_in, number_in, optional_in}
+use Rattle.csv_table.specs.Columns.{◌>>=◌, in_row, begins_with, count_in, name_in, number_in, optional_in}
 use Rattle.csv_table.specs.Rows.{rows_of}
 use Rattle.csv_table.proofs.Ranges.{Within, name_back, name_named, number_back, number_within, optional_back, optional_within}
 use Rattle.csv_table.proofs.RoundTrip.{map_read_back, rows_of-rows_text}
 use Rattle.csv_table.specs.Gives.{Gives}
+use Rattle.csv_table.specs.Writing.{optional_text}
 use Rattle.input_text.specs.declared.signals.SignalsFault.{SignalsFault}
-use Rattle.input_text.specs.SignalsText.{signals_refusal, SignalsRefusal, bad_header, bad_row, too_many, in_row, pdu_text, signal_fields, signal_of, signals_from, signals_header, signals_in, signals_of, signals_text}
+use Rattle.input_text.specs.SignalsText.{signals_refusal, SignalsRefusal, bad_header, too_many, bad_row, ReadsBack, signal_fields, signal_of, signals_from, signals_header, signals_in, signals_of, signals_text}
 
 -- a signal that stands, with its names
 pub record IsSignal (s : Signal) : Type 0 where
@@ -50,9 +51,12 @@ columns_stand (Ok c) (Ok n) (Ok s) (Ok p) (Ok b) (Ok t) (Ok d) (Ok j) hn hs hp h
     record {
       stands = record {
         pdu_low = pdu_low p hp;
-        bits_low = hb.above; bits_high = hb.below;
-        period_low = ht.above; period_high = ht.below;
-        deadline_low = deadline.above; deadline_high = deadline.below;
+        bits_low = hb.above;
+        bits_high = hb.below;
+        period_low = ht.above;
+        period_high = ht.below;
+        deadline_low = deadline.above;
+        deadline_high = deadline.below;
         jitter_high = jitter.below;
       };
       name = hn;
@@ -73,7 +77,7 @@ record AreSignals (n : ℕ) (signals : List Signal) : Type 0 where
   few : n + length signals ≤ 2050
 
 one_more : (n : ℕ) (signal : Result Signal ℕ) (others : Result (List Signal) SignalsRefusal) → IfOk signal IsSignal → IfOk others (AreSignals (n + 1))
-    → IfOk (in_row n signal >>= λ s. others >>= λ ss. Ok (s ∷ ss)) (AreSignals n)
+    → IfOk (in_row bad_row n signal >>= λ s. others >>= λ ss. Ok (s ∷ ss)) (AreSignals n)
 one_more n (Err k) others h more = tt
 one_more n (Ok s) (Err e) h more = tt
 one_more n (Ok s) (Ok ss) h more = record { each = (h, more.each); few = omega (arith, more.few) }
@@ -92,52 +96,53 @@ rows_stand : (n : ℕ) (rows : List (List (List ℕ))) → n ≤ 2050 → IfOk (
 rows_stand n [] le = record { each = tt; few = omega arith }
 rows_stand n (row ∷ rows) le =
     too_many_or n (n == 2050) _ (λ other.
-      let lt = not_last n le other in
-      one_more n (signal_of row) (signals_from (n + 1) rows) (signal_stands row) (rows_stand (n + 1) rows (omega arith)))
+    let lt = not_last n le other in
+    one_more n (signal_of row) (signals_from (n + 1) rows) (signal_stands row) (rows_stand (n + 1) rows (omega arith)))
 
 -- what is read stands, and is no more than 2048 signals
 pub signals_stand : (text : List ℕ) (signals : List Signal) → signals_of text ≡ Ok signals → All IsSignal signals × (length signals ≤ 2048)
-signals_stand text signals e = by (rows_of text) e
+signals_stand text signals e = chosen (begins_with signals_header (rows_of text)) (signals_from 2 (drop 1 (rows_of text))) e (rows_stand 2 (drop 1 (rows_of text)) (omega arith))
   where
     read : (r : Result (List Signal) SignalsRefusal) → r ≡ Ok signals → IfOk r (AreSignals 2) → All IsSignal signals × (length signals ≤ 2048)
     read (Ok xs) is h =
         let same : xs ≡ signals = cc in
         rw (← same) (All-from_recursion IsSignal xs h.each, omega (arith, h.few))
     read (Err f) is h = absurd cc
+
     chosen : (b : Bool) (r : Result (List Signal) SignalsRefusal) → cond b r (Err bad_header) ≡ Ok signals → IfOk r (AreSignals 2) → All IsSignal signals × (length signals ≤ 2048)
     chosen true r is h = read r is h
     chosen false r is h = absurd cc
-    by : (rows : List (List (List ℕ))) → signals_in rows ≡ Ok signals → All IsSignal signals × (length signals ≤ 2048)
-    by [] is = absurd cc
-    by (header ∷ rows) is = chosen (is_row header signals_header) (signals_from 2 rows) is (rows_stand 2 rows (omega arith))
 
 -- ---- and back
 
 pdu_back : (o : Option ℕ) (a b c d e f : List ℕ) → IfSome o (λ id. 1 ≤ id) → IfSome o (λ id. id ≤ 4294967295)
-    → optional_in 1 4294967295 3 (a ∷ b ∷ pdu_text o ∷ c ∷ d ∷ e ∷ f ∷ []) ≡ Ok o
+    → optional_in 1 4294967295 3 (a ∷ b ∷ optional_text o ∷ c ∷ d ∷ e ∷ f ∷ []) ≡ Ok o
 pdu_back None a b c d e f low high = refl
 pdu_back (Some id) a b c d e f low high = optional_back 1 4294967295 3 id (a ∷ b ∷ decimal id ∷ c ∷ d ∷ e ∷ f ∷ []) refl (omega arith) low high
 
 -- a written signal is read
-pub signal_back : (s : Signal) → IsSignal s → IfSome s.pdu (λ id. id ≤ 4294967295) → signal_of (signal_fields s) ≡ Ok s
+pub signal_back : (s : Signal) → IsSignal s → IfSome s.pdu (λ id. id ≤ 4294967295) → ReadsBack s
 signal_back s is pdu_high =
     let fields = signal_fields s in
     let stands = is.stands in
     let pdu = pdu_back s.pdu s.name s.sender (decimal s.bits) (decimal s.period_us) (decimal s.deadline_us) (decimal s.jitter_us) stands.pdu_low pdu_high in
-    rw (name_back 1 s.name fields refl is.name, name_back 2 s.sender fields refl is.sender, pdu,
-    number_back 1 512 4 s.bits fields refl (omega arith) stands.bits_low stands.bits_high,
-    number_back 1 100000000 5 s.period_us fields refl (omega arith) stands.period_low stands.period_high,
-    optional_back 1 100000000 6 s.deadline_us fields refl (omega arith) stands.deadline_low stands.deadline_high,
-    optional_back 0 100000000 7 s.jitter_us fields refl (omega arith) (omega arith) stands.jitter_high) refl
-
-abbrev pub ReadsBack : Signal → Type 0
-ReadsBack s = signal_of (signal_fields s) ≡ Ok s
+    record {
+      signal = rw (
+        name_back 1 s.name fields refl is.name,
+        name_back 2 s.sender fields refl is.sender,
+        pdu,
+        number_back 1 512 4 s.bits fields refl (omega arith) stands.bits_low stands.bits_high,
+        number_back 1 100000000 5 s.period_us fields refl (omega arith) stands.period_low stands.period_high,
+        optional_back 1 100000000 6 s.deadline_us fields refl (omega arith) stands.deadline_low stands.deadline_high,
+        optional_back 0 100000000 7 s.jitter_us fields refl (omega arith) (omega arith) stands.jitter_high,
+      ) refl;
+    }
 
 rows_back : (n : ℕ) (signals : List Signal) → n + length signals ≤ 2050 → AllByRecursion ReadsBack signals → signals_from n (map signal_fields signals) ≡ Ok signals
 rows_back n [] few h = refl
 rows_back n (s ∷ ss) few h =
     let room : (n == 2050) ≡ false = ne_eqb n 2050 (λ e. absurd (omega (arith, e))) in
-    rw (room, h.0, rows_back (n + 1) ss (omega arith) h.1) refl
+    rw (room, h.0.signal, rows_back (n + 1) ss (omega arith) h.1) refl
 
 -- the written text is read
 pub signals_back : (signals : List Signal) → length signals ≤ 2048 → All ReadsBack signals → signals_of (signals_text signals) ≡ Ok signals

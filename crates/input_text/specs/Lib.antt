@@ -1,1 +1,2 @@
 pub mod SignalsText
+pub mod NetworkText

@@ -1,9 +1,9 @@
 -- The text of signals (SIGNALS), the project's own format: CSV as RFC 4180 has it, read by `csv`'s rules.
-use Rattle.std.specs.Prelude.{◌≡◌, ℕ, ◌+◌, ◌==◌, ◌∷◌, [], List, codes, decimal, map, Option, Some, None, unwrap_or, Result, Ok, Err, if◌then◌else◌}
+use Rattle.std.specs.Prelude.{◌≡◌, ℕ, ◌+◌, ◌==◌, ◌∷◌, [], List, codes, decimal, drop, map, Option, Some, None, unwrap_or, Result, Ok, Err, if◌then◌else◌}
 use Rattle.pack_model.specs.declared.signal.Signal.{Signal}
-use Rattle.csv_table.specs.Columns.{◌>>=◌, is_row, count_in, name_in, number_in, optional_in}
+use Rattle.csv_table.specs.Columns.{◌>>=◌, begins_with, in_row, count_in, name_in, number_in, optional_in}
 use Rattle.csv_table.specs.Rows.{rows_of}
-use Rattle.csv_table.specs.Writing.{rows_text}
+use Rattle.csv_table.specs.Writing.{optional_text, rows_text}
 use Rattle.input_text.specs.declared.signals.SignalsFault.{SignalsFault}
 use Rattle.input_text.specs.declared.signals.SignalsFault.TheVariants as fault
 
@@ -30,27 +30,26 @@ signal_of fields = do
   deadline ← optional_in 1 100000000 6 fields
   jitter ← optional_in 0 100000000 7 fields
   Ok (record {
-    name = name; sender = sender; pdu = pdu; bits = bits; period_us = period;
-    deadline_us = unwrap_or deadline period; jitter_us = unwrap_or jitter 0
+    name = name;
+    sender = sender;
+    pdu = pdu;
+    bits = bits;
+    period_us = period;
+    deadline_us = unwrap_or deadline period;
+    jitter_us = unwrap_or jitter 0;
   })
-
--- a column that breaks its rule, in row n
-abbrev pub in_row : {A : Type 0} → ℕ → Result A ℕ → Result A SignalsRefusal
-in_row n (Ok x) = Ok x
-in_row n (Err k) = Err (bad_row n k)
 
 -- the signals of the records from row n on; a record in row 2050 is one too many, whatever its columns
 abbrev pub signals_from : ℕ → List (List (List ℕ)) → Result (List Signal) SignalsRefusal
 signals_from n [] = Ok []
 signals_from n (row ∷ rows) = if n == 2050 then Err too_many else (do
-  signal ← in_row n (signal_of row)
+  signal ← in_row bad_row n (signal_of row)
   signals ← signals_from (n + 1) rows
   Ok (signal ∷ signals))
 
 -- the signals under the header
 abbrev pub signals_in : List (List (List ℕ)) → Result (List Signal) SignalsRefusal
-signals_in [] = Err bad_header
-signals_in (header ∷ rows) = if is_row header signals_header then signals_from 2 rows else Err bad_header
+signals_in rows = if begins_with signals_header rows then signals_from 2 (drop 1 rows) else Err bad_header
 
 -- the signals of a text, or its first refusal
 abbrev pub signals_of : List ℕ → Result (List Signal) SignalsRefusal
@@ -68,13 +67,13 @@ signals_refusal fault.TooManySignals = Some too_many
 signals_refusal fault.Memory = None
 
 -- the fields of a signal as they are written
-abbrev pub pdu_text : Option ℕ → List ℕ
-pdu_text None = []
-pdu_text (Some id) = decimal id
-
 abbrev pub signal_fields : Signal → List (List ℕ)
 signal_fields s =
-    s.name ∷ s.sender ∷ pdu_text s.pdu ∷ decimal s.bits ∷ decimal s.period_us ∷ decimal s.deadline_us ∷ decimal s.jitter_us ∷ []
+    s.name ∷ s.sender ∷ optional_text s.pdu ∷ decimal s.bits ∷ decimal s.period_us ∷ decimal s.deadline_us ∷ decimal s.jitter_us ∷ []
+
+-- the written fields of a signal are read as the signal
+pub record ReadsBack (s : Signal) : Type 0 where
+  pub signal : signal_of (signal_fields s) ≡ Ok s
 
 -- the text that is written for signals
 abbrev pub signals_text : List Signal → List ℕ

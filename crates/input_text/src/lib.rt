@@ -4,6 +4,11 @@
 //! refusal, and that what is written reads back.
 #![tactic(auto)]
 
+mod network;
 mod signals;
 
+pub use network::{NetworkFault, read_network, write_network};
 pub use signals::{SignalsFault, read_signals, write_signals};
+
+#[cfg(test)]
+mod tests;

@@ -1,15 +1,15 @@
 //! The text of signals.
-ghost use Rattle.std.specs.Prelude.{◌≡◌, ◌≤◌, ◌++◌, ◌∷◌, [], length, All, IfOk, OnOk, Ok};
+ghost use Rattle.std.specs.Prelude.{◌≡◌, ◌≤◌, ◌++◌, [], length, map, All, IfOk, OnOk, Ok};
 ghost use Rattle.csv.specs.Records.{fields_of};
 ghost use Rattle.csv.specs.Writing.{default_writer, row_text};
 ghost use Rattle.csv_table.specs.Gives.{Gives, column_of};
+ghost use Rattle.csv_table.specs.Writing.{rows_text};
 ghost use Rattle.pack_model.specs.Signal.{SignalStands};
-ghost use Rattle.input_text.specs.SignalsText.{SignalsText, signal_fields, signal_of, signals_from, signals_of, signals_refusal, signals_text};
+ghost use Rattle.input_text.specs.SignalsText.{ReadsBack, SignalsText, signal_fields, signal_of, signals_from, signals_of, signals_refusal, signals_text};
 ghost use Rattle.input_text.specs.declared.signals.SignalsFault.TheVariants as fault;
 
 use csv::ByteRecord;
-use csv_table::{ColumnFault, Rows, RowsWriter, count_at, has_fields, name_at, number_at, optional_at};
-use itoa::Buffer;
+use csv_table::{ColumnFault, Rows, RowsWriter, count_at, name_at, number_at, optional_at};
 use pack_model::{Memory, Signal};
 use std::alloc::{AllocFailed, Global};
 use thiserror::Error;
@@ -101,7 +101,10 @@ fn read_signal_rows(
         }
         match read_signal(alloc, row) {
             Ok(signal) => signals.push(signal)?,
-            Err(ColumnFault::Column(column)) => return Err(SignalsFault::BadRow { row: number, column }),
+            Err(ColumnFault::Column(column)) => return Err(SignalsFault::BadRow {
+                row: number,
+                column,
+            }),
             Err(ColumnFault::Memory) => return Err(SignalsFault::Memory),
         }
     }
@@ -128,61 +131,41 @@ fn read_all_signals(alloc: Global, text: &[u8]) -> Result<Vec<Signal>, SignalsFa
 {
     let mut rows = Rows::of_text(alloc, text);
     let mut row = ByteRecord::new(alloc);
-    if !rows.next(&mut row)? || !has_fields(&row, &SIGNALS_HEADER) {
+    if !rows.next_is(&mut row, &SIGNALS_HEADER)? {
         return Err(SignalsFault::BadHeader);
     }
     read_signal_rows(alloc, &mut rows, &mut row)
 }
 
-// The columns of a row, under one lifetime.
-fn write_columns<'a>(
-    out: &mut RowsWriter,
-    name: &'a [u8],
-    sender: &'a [u8],
-    pdu: &'a str,
-    bits: &'a str,
-    period: &'a str,
-    deadline: &'a str,
-    jitter: &'a str,
-) -> Result<(), Memory>
-    ensures { OnOk result (out.new ≡ out.old ++ row_text default_writer (name.now ∷ sender.now ∷ pdu.now ∷ bits.now ∷ period.now ∷ deadline.now ∷ jitter.now ∷ [])) }
-{
-    out.write(&[
-        name,
-        sender,
-        pdu.as_bytes(),
-        bits.as_bytes(),
-        period.as_bytes(),
-        deadline.as_bytes(),
-        jitter.as_bytes(),
-    ])
-}
-
 // Adds the row of a signal.
 fn write_signal(out: &mut RowsWriter, signal: &Signal) -> Result<(), Memory>
-    requires { SignalStands signal.now }
-    ensures text { OnOk result (out.new ≡ out.old ++ row_text default_writer (signal_fields signal.now)) }
-    ensures reads_back { OnOk result (signal_of (signal_fields signal.now) ≡ Ok signal.now) }
+    requires stands { SignalStands signal.now }
+    requires at_start { out.old.row ≡ [] }
+    ensures text { OnOk result (out.new.text ≡ out.old.text ++ row_text default_writer (signal_fields signal.now)) }
+    ensures row { OnOk result (out.new.row ≡ []) }
+    ensures reads_back { OnOk result (ReadsBack signal.now) }
 {
-    let mut pdu = Buffer::new();
-    let mut bits = Buffer::new();
-    let mut period = Buffer::new();
-    let mut deadline = Buffer::new();
-    let mut jitter = Buffer::new();
-    let pdu = match signal.pdu {
-        None => "",
-        Some(id) => pdu.format(id),
-    };
-    write_columns(
-        out,
-        signal.name.bytes(),
-        signal.sender.bytes(),
-        pdu,
-        bits.format(signal.bits),
-        period.format(signal.period_us),
-        deadline.format(signal.deadline_us),
-        jitter.format(signal.jitter_us),
-    )
+    out.field(signal.name.bytes())?;
+    out.field(signal.sender.bytes())?;
+    out.optional(signal.pdu)?;
+    out.number(u64::from(signal.bits))?;
+    out.number(u64::from(signal.period_us))?;
+    out.number(u64::from(signal.deadline_us))?;
+    out.number(u64::from(signal.jitter_us))?;
+    out.end()
+}
+
+// Adds the rows of signals.
+fn write_signal_rows(out: &mut RowsWriter, signals: &[Signal]) -> Result<(), Memory>
+    requires stand { All SignalStands signals.now }
+    requires at_start { out.old.row ≡ [] }
+    ensures text { OnOk result (out.new.text ≡ out.old.text ++ rows_text (map signal_fields signals.now)) }
+    ensures reads_back { OnOk result (All ReadsBack signals.now) }
+{
+    for signal in signals {
+        write_signal(out, signal)?;
+    }
+    Ok(())
 }
 
 /// The text of signals in the format of SIGNALS, every column in full.
@@ -194,9 +177,7 @@ pub fn write_signals(alloc: Global, signals: &[Signal]) -> Result<Vec<u8>, Memor
     ensures reads_back { IfOk result (λ v. SignalsText v.items signals.now) }
 {
     let mut out = RowsWriter::new(alloc);
-    out.write(&SIGNALS_HEADER)?;
-    for signal in signals {
-        write_signal(&mut out, signal)?;
-    }
+    out.row(&SIGNALS_HEADER)?;
+    write_signal_rows(&mut out, signals)?;
     out.finish()
 }

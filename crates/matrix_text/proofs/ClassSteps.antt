@@ -1,16 +1,17 @@
 -- The signals of each class, and the steps of the loop over the classes.
-use Rattle.std.proofs.Common.{◌≡◌, ℕ, ◌+◌, ◌*◌, ◌<◌, ◌≤◌, List, [], ◌∷◌, ◌++◌, length, map, take, get_or, sum, sum_by, All, refl, sym, ap, subst, ◌∙◌, arith, zero-add, append-nil}
-use Rattle.std.specs.List.{flat_map, enumerate_from, range_with_len}
+use Rattle.std.proofs.Common.{◌≡◌, ℕ, ◌+◌, ◌*◌, ◌<◌, ◌≤◌, List, [], ◌∷◌, ◌++◌, length, map, take, get_or, sum, sum_by, All, Option, refl, sym, ap, subst, ◌∙◌, arith, zero-add, append-nil}
+use Rattle.std.specs.List.{flat_map, filter_map, enumerate_from, range_with_len, slice_get}
 use Rattle.std.specs.Int.{div_ceil}
 use Rattle.std.proofs.lemmas.Grind.{div_ceil_times, flat_map-append}
 use Rattle.std.proofs.lemmas.List.{get_or_default, get_or-map, length-map, take_more}
-use Rattle.std.proofs.lemmas.List.Elements.{All-nil, All-cons, All-head, All-tail, All-append}
+use Rattle.std.proofs.lemmas.List.Elements.{All-nil, All-cons, All-head, All-tail, All-append, filter_map-append}
 use Rattle.std.proofs.lemmas.List.FromFn.{get_or-map-range_with_len, length-enumerate_from, get_or-enumerate_from}
 use Rattle.std.proofs.lemmas.List.Sums.{sum_by-cons}
 use Rattle.pack_model.specs.declared.signal.Signal.{Signal}
 use Rattle.pack_model.specs.declared.item.Item.{Item}
 use Rattle.pack_model.specs.Problem.{Parts, senders_of, free_item}
-use Rattle.pack_model.specs.Grouping.{class_of, bits_of_class, bytes_of_class}
+use Rattle.pack_model.specs.Grouping.{class_of, bits_of_class}
+use Rattle.pack_model.specs.ClassTimes.{signals_of_class}
 use Rattle.pack_model.proofs.GroupingLaws.{All-class_of}
 use Rattle.pack_model.proofs.ItemLaws.{IsItemOf}
 use Rattle.matrix_text.specs.LaidOut.{signals_at, places_of_class, widths_of, rows_of_class}
@@ -54,6 +55,14 @@ pub widths_of_class : (signals : List Signal) (items : List Item) (labels : List
 widths_of_class signals items labels k all =
     sum-map (λ (s : Signal). s.bits) (signals_at signals (places_of_class items labels k))
     ∙ sum_over_signals (λ s. s.bits) (λ item. item.bits) signals (class_of k labels items) (All-class_of (IsItemOf signals) k labels items all) (λ item of. ap (λ (y : Item). y.bits) of.is)
+
+filter_map-flat_map : {X Y Z : Type 0} (h : Y → Option Z) (f : X → List Y) (xs : List X) → filter_map h (flat_map f xs) ≡ flat_map (λ x. filter_map h (f x)) xs
+filter_map-flat_map h f [] = refl
+filter_map-flat_map h f (x ∷ xs) = filter_map-append h (f x) (flat_map f xs) ∙ ap (λ zs. filter_map h (f x) ++ zs) (filter_map-flat_map h f xs)
+
+-- the signals at a class's places are its signals
+pub signals_at-class : (problem : Parts) (labels : List ℕ) (k : ℕ) → signals_at problem.signals (places_of_class problem.items labels k) ≡ signals_of_class problem labels k
+signals_at-class problem labels k = filter_map-flat_map (slice_get problem.signals) (λ (item : Item). item.members) (class_of k labels problem.items)
 
 -- at most 64 bytes are at most 512 bits
 pub few_bits : (bits : ℕ) → div_ceil bits 8 ≤ 64 → bits ≤ 512

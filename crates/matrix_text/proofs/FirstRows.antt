@@ -1,5 +1,5 @@
 -- The first row of each identifier, with which its other rows agree.
-use Rattle.std.proofs.Common.{◌≡◌, ℕ, ◌+◌, ◌<◌, ◌≤◌, ◌⊎◌, List, length, get_or, inl, inr, sym, ap, subst, ◌∙◌, arith, All, AllPairs, refl, set, get_or-set_same, get_or-set_other, ◌≢◌}
+use Rattle.std.proofs.Common.{◌≡◌, ℕ, ◌+◌, ◌<◌, ◌≤◌, ◌⊎◌, List, length, get_or, inl, inr, sym, ap, subst, ◌∙◌, arith, All, AllPairs, refl, set, get_or-set_same, get_or-set_other}
 use Rattle.std.proofs.lemmas.Bool.{cases_lt, cases_eq}
 use Rattle.std.proofs.lemmas.List.{get_or_default}
 use Rattle.matrix_text.specs.declared.matrix.MatrixRow.{MatrixRow}
@@ -38,7 +38,7 @@ agrees_by a b c e f = record {
 
 -- what holds of the rows below a number and of its row holds below the next
 pub below_row : (rows : List MatrixRow) (number : ℕ) (row : MatrixRow) (P : MatrixRow → Type 0) → number < length rows → row ≡ get_or rows number row
-  → ((k : ℕ) (d : MatrixRow) → k < number → P (get_or rows k d)) → P row → (k : ℕ) (d : MatrixRow) → k < number + 1 → P (get_or rows k d)
+    → ((k : ℕ) (d : MatrixRow) → k < number → P (get_or rows k d)) → P row → (k : ℕ) (d : MatrixRow) → k < number + 1 → P (get_or rows k d)
 below_row rows number row P lt at below here k d before = by (cases_lt k number)
   where
     by : (k < number) ⊎ (number ≤ k) → P (get_or rows k d)
@@ -63,12 +63,12 @@ module _ (rows : List MatrixRow) (number : ℕ) (row : MatrixRow) (lt : number <
     below = omega arith;
     has = λ d. ap (λ (r : MatrixRow). r.id) (at_number rows number row d lt at);
     agree = λ d. below_row rows number row (λ r. r.id ≡ row.id → SameFrame (get_or rows number d) r) lt at (λ k e before same. absurd (none k e before same))
-      (λ _. subst (λ r. SameFrame r row) (sym (at_number rows number row d lt at)) (agrees row));
+        (λ _. subst (λ r. SameFrame r row) (sym (at_number rows number row d lt at)) (agrees row));
   })
 
   -- the table with a first row
   pub with_first : (table : List ℕ) → length table ≡ 2048 → number < no_row → row.id ≤ 2047 → get_or table row.id 0 ≡ no_row
-    → ((id : ℕ) → id < 2048 → HasFirst rows number id (get_or table id 0)) → (id : ℕ) → id < 2048 → HasFirst rows (number + 1) id (get_or (set table row.id number) id 0)
+      → ((id : ℕ) → id < 2048 → HasFirst rows number id (get_or table id 0)) → (id : ℕ) → id < 2048 → HasFirst rows (number + 1) id (get_or (set table row.id number) id 0)
   with_first table long small in_range free so_far id below = by (cases_eq id row.id) (so_far row.id (omega arith))
     where
       by : (id ≡ row.id) ⊎ (id ≡ row.id → ⊥) → HasFirst rows number row.id (get_or table row.id 0) → HasFirst rows (number + 1) id (get_or (set table row.id number) id 0)
@@ -81,7 +81,7 @@ module _ (rows : List MatrixRow) (number : ℕ) (row : MatrixRow) (lt : number <
 
   -- the table stays where the row agrees with its first row
   pub with_agreeing : (table : List ℕ) (first : MatrixRow) → row.id ≤ 2047 → (get_or table row.id 0 ≡ no_row → ⊥) → first ≡ get_or rows (get_or table row.id 0) first → SameFrame first row
-    → ((id : ℕ) → id < 2048 → HasFirst rows number id (get_or table id 0)) → (id : ℕ) → id < 2048 → HasFirst rows (number + 1) id (get_or table id 0)
+      → ((id : ℕ) → id < 2048 → HasFirst rows number id (get_or table id 0)) → (id : ℕ) → id < 2048 → HasFirst rows (number + 1) id (get_or table id 0)
   with_agreeing table first in_range there is agree so_far id below = by (cases_eq id row.id) (so_far id below)
     where
       by : (id ≡ row.id) ⊎ (id ≡ row.id → ⊥) → HasFirst rows number id (get_or table id 0) → HasFirst rows (number + 1) id (get_or table id 0)
@@ -90,23 +90,23 @@ module _ (rows : List MatrixRow) (number : ℕ) (row : MatrixRow) (lt : number <
         below = omega (arith, found.below);
         has = found.has;
         agree = λ d. below_row rows number row (λ r. r.id ≡ id → SameFrame (get_or rows (get_or table id 0) d) r) lt at (found.agree d)
-          (λ _. subst (λ r. SameFrame r row) (is ∙ get_or_default rows (get_or table row.id 0) first d (omega (arith, found.below, ap (λ i. get_or table i 0) same)) ∙ ap (λ i. get_or rows (get_or table i 0) d) (sym same)) agree);
+            (λ _. subst (λ r. SameFrame r row) (is ∙ get_or_default rows (get_or table row.id 0) first d (omega (arith, found.below, ap (λ i. get_or table i 0) same)) ∙ ap (λ i. get_or rows (get_or table i 0) d) (sym same)) agree);
       })
       by (inr differ) found = other_id id (get_or table id 0) (λ e. differ (sym e)) found
 
   -- a row that disagrees with the first row of its frame
   pub disagrees : (table : List ℕ) (first : MatrixRow) → row.id ≤ 2047 → (get_or table row.id 0 ≡ no_row → ⊥) → first ≡ get_or rows (get_or table row.id 0) first → (SameFrame first row → ⊥)
-    → ((id : ℕ) → id < 2048 → HasFirst rows number id (get_or table id 0)) → AllPairs (λ r other. r.id ≡ other.id → SameFrame r other) rows → ⊥
+      → ((id : ℕ) → id < 2048 → HasFirst rows number id (get_or table id 0)) → AllPairs (λ r other. r.id ≡ other.id → SameFrame r other) rows → ⊥
   disagrees table first in_range there is differ so_far agree = by (so_far row.id (omega arith))
     where
       by : HasFirst rows number row.id (get_or table row.id 0) → ⊥
       by (inl none) = there none.0
       by (inr found) = differ (subst (λ r. SameFrame r row) (sym is) (subst (λ r. SameFrame (get_or rows (get_or table row.id 0) first) r) (at_number rows number row first lt at)
-        (agree (get_or table row.id 0) number first found.below lt (found.has first ∙ sym (ap (λ (r : MatrixRow). r.id) (at_number rows number row first lt at))))))
+          (agree (get_or table row.id 0) number first found.below lt (found.has first ∙ sym (ap (λ (r : MatrixRow). r.id) (at_number rows number row first lt at))))))
 
 -- at the end all rows of a frame agree
 pub all_agree : (rows : List MatrixRow) (number : ℕ) (table : List ℕ) → length rows ≤ number → ((k : ℕ) (d : MatrixRow) → k < length rows → (get_or rows k d).id ≤ 2047)
-  → ((id : ℕ) → id < 2048 → HasFirst rows number id (get_or table id 0)) → AllPairs (λ r other. r.id ≡ other.id → SameFrame r other) rows
+    → ((id : ℕ) → id < 2048 → HasFirst rows number id (get_or table id 0)) → AllPairs (λ r other. r.id ≡ other.id → SameFrame r other) rows
 all_agree rows number table all in_range found i j d before within same = by (found (get_or rows i d).id (let low : (get_or rows i d).id ≤ 2047 = in_range i d (omega arith) in omega (arith, low)))
   where
     by : HasFirst rows number (get_or rows i d).id (get_or table (get_or rows i d).id 0) → SameFrame (get_or rows i d) (get_or rows j d)

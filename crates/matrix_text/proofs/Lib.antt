@@ -4,5 +4,12 @@ pub mod ClassSteps
 pub mod Counts
 pub mod FirstRows
 pub mod FrameSteps
+pub mod FramesFound
+pub mod InOrder
+pub mod InUse
 pub mod LaidSteps
+pub mod Numbering
+pub mod OnePlaceLaws
+pub mod PlacedLaws
 pub mod RowsFound
+pub mod TextLaws

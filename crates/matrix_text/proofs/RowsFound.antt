@@ -1,9 +1,9 @@
 -- The row of each signal, as rows come one by one.
-use Rattle.std.proofs.Common.{◌≡◌, ◌≢◌, ℕ, ◌+◌, ◌<◌, ◌≤◌, ◌⊎◌, Bool, true, false, cond, List, [], ◌∷◌, length, get_or, map, set, count_by, inl, inr, sym, ap, subst, refl, ◌∙◌, arith, true≢false, All, Any, Option, None, Some, position, nat_lt}
+use Rattle.std.proofs.Common.{◌≡◌, ◌≢◌, ℕ, ◌+◌, ◌<◌, ◌≤◌, ◌⊎◌, Bool, true, false, cond, List, [], length, get_or, set, count_by, inl, inr, sym, ap, subst, refl, ◌∙◌, arith, true≢false, Any, None, Some, position}
 use Rattle.std.specs.List.{list_any, position_or_len}
 use Rattle.std.specs.Str.{bytes_eq}
 use Rattle.std.specs.Cmp.Lexicographic.{nat_list_eq_equiv}
-use Rattle.std.proofs.lemmas.Bool.{cases_lt, cases_eq, false≢true}
+use Rattle.std.proofs.lemmas.Bool.{cases_lt, cases_eq}
 use Rattle.std.proofs.lemmas.Slice.Eq.{bytes_eq-Decides}
 use Rattle.std.proofs.lemmas.List.{get_or_default, get_or-map, length-map, get_or-set_same, get_or-set_other}
 use Rattle.std.proofs.lemmas.List.Quantifiers.{position-Some}
@@ -12,7 +12,7 @@ use Rattle.pack_model.specs.declared.signal.Signal.{Signal}
 use Rattle.pack_model.specs.Problem.{Parts, IsProblem, names_of}
 use Rattle.std.proofs.lemmas.Bool.{lt-ltb}
 use Rattle.std.proofs.lemmas.List.Folds.{list_any_at}
-use Rattle.pack_model.proofs.Laws.{names_differ, tests, Tests, element}
+use Rattle.pack_model.proofs.Laws.{names_differ, tests, element}
 use Rattle.pack_model.proofs.Steps.{first_place}
 use Rattle.matrix_text.specs.declared.matrix.MatrixRow.{MatrixRow}
 use Rattle.matrix_text.specs.Placed.{OneRow, RowOf, is_named}
@@ -53,11 +53,11 @@ elsewhere problem stands name place other lt lt2 differ is =
         names_differ (names_of problem.signals) (tests problem stands).different place other [] (omega (arith, differ)) in_names
 
 -- the name at a place is that of its signal
-name_is : (signals : List Signal) (place : ℕ) (d : Signal) → place < length signals → name_at signals place ≡ (get_or signals place d).name
+pub name_is : (signals : List Signal) (place : ℕ) (d : Signal) → place < length signals → name_at signals place ≡ (get_or signals place d).name
 name_is signals place d lt = get_or-map (λ (s : Signal). s.name) signals place d [] lt
 
 -- a row of a signal has the name at the signal's place
-row_named : (signals : List Signal) (k : ℕ) (s : Signal) (row : MatrixRow) → k < length signals → get_or signals k s ≡ s → RowOf s row → is_named (name_at signals k) row ≡ true
+pub row_named : (signals : List Signal) (k : ℕ) (s : Signal) (row : MatrixRow) → k < length signals → get_or signals k s ≡ s → RowOf s row → is_named (name_at signals k) row ≡ true
 row_named signals k s row lt is of =
     let same : name_at signals k ≡ row.signal = name_is signals k s lt ∙ ap (λ (t : Signal). t.name) is ∙ sym of.name in
     subst (λ n. bytes_eq n row.signal ≡ true) (sym same) (nat_list_eq_equiv.refl row.signal)
@@ -112,15 +112,15 @@ module _ (problem : Parts) (stands : IsProblem problem) (rows : List MatrixRow) 
 
   -- the table with the row
   pub with_row : (table : List ℕ) → length table ≡ 2048 → number < no_row → get_or table place 0 ≡ no_row
-    → ((p : ℕ) → p < length problem.signals → HasRow rows number (name_at problem.signals p) (get_or table p 0))
-    → (p : ℕ) → p < length problem.signals → HasRow rows (number + 1) (name_at problem.signals p) (get_or (set table place number) p 0)
+      → ((p : ℕ) → p < length problem.signals → HasRow rows number (name_at problem.signals p) (get_or table p 0))
+      → (p : ℕ) → p < length problem.signals → HasRow rows (number + 1) (name_at problem.signals p) (get_or (set table place number) p 0)
   with_row table long small free seen p below = by (cases_eq p place) (seen place place_in)
     where
       by : (p ≡ place) ⊎ (p ≡ place → ⊥) → HasRow rows number (name_at problem.signals place) (get_or table place 0) → HasRow rows (number + 1) (name_at problem.signals p) (get_or (set table place number) p 0)
       by (inl same) (inl none) =
           let inside : place < length table = omega (arith, place_in, (tests problem stands).few) in
           subst (λ q. HasRow rows (number + 1) (name_at problem.signals q) (get_or (set table place number) q 0)) (sym same)
-            (subst (λ r. HasRow rows (number + 1) (name_at problem.signals place) r) (sym (get_or-set_same table place number 0 inside)) (inr (first_row (name_at problem.signals place) named_here none.1)))
+          (subst (λ r. HasRow rows (number + 1) (name_at problem.signals place) r) (sym (get_or-set_same table place number 0 inside)) (inr (first_row (name_at problem.signals place) named_here none.1)))
       by (inl same) (inr one) = absurd (omega (arith, one.below, free))
       by (inr differ) _ = subst (λ r. HasRow rows (number + 1) (name_at problem.signals p) r) (sym (get_or-set_other table place p number 0 differ)) (grown (name_at problem.signals p) (get_or table p 0) (not_named p below differ) (seen p below))
 
@@ -130,6 +130,7 @@ module _ (problem : Parts) (stands : IsProblem problem) (rows : List MatrixRow) 
     where
       signal : (s : Signal) × (s ≡ get_or problem.signals place s)
       signal = element problem.signals place place_in
+
       by : HasRow rows number (name_at problem.signals place) (get_or table place 0) → ⊥
       by (inl none) = taken none.0
       by (inr first) =
@@ -153,10 +154,10 @@ module _ (problem : Parts) (stands : IsProblem problem) (rows : List MatrixRow) 
 
 -- where each signal has a row
 pub all_found : (signals : List Signal) (rows : List MatrixRow) (number : ℕ) (table : List ℕ) → length rows ≤ number → number ≤ length rows
-  → ((p : ℕ) → p < length signals → HasRow rows number (name_at signals p) (get_or table p 0))
-  → ((k : ℕ) (d : MatrixRow) → k < number → Any (λ s. RowOf s (get_or rows k d)) signals)
-  → ((p : ℕ) → p < length signals → get_or table p 0 ≢ no_row)
-  → OneRow signals rows × HasRows signals rows table
+    → ((p : ℕ) → p < length signals → HasRow rows number (name_at signals p) (get_or table p 0))
+    → ((k : ℕ) (d : MatrixRow) → k < number → Any (λ s. RowOf s (get_or rows k d)) signals)
+    → ((p : ℕ) → p < length signals → get_or table p 0 ≢ no_row)
+    → OneRow signals rows × HasRows signals rows table
 all_found signals rows number table all most seen others found = (record { each = each; no_other = λ k d lt. others k d (omega arith) }, placed)
   where
     one : (p : ℕ) → p < length signals → OnlyRow rows number (name_at signals p) (get_or table p 0)
@@ -165,11 +166,13 @@ all_found signals rows number table all most seen others found = (record { each 
         by : HasRow rows number (name_at signals p) (get_or table p 0) → OnlyRow rows number (name_at signals p) (get_or table p 0)
         by (inl none) = absurd (found p below none.0)
         by (inr only) = only
+
     each : (p : ℕ) (d : Signal) → p < length signals → count_by (is_named (get_or signals p d).name) rows ≡ 1
     each p d below =
         let only = one p below in
         ap (λ n. count_by (is_named n) rows) (sym (name_is signals p d below))
         ∙ count_only (is_named (name_at signals p)) rows (get_or table p 0) (omega (arith, only.below)) only.named (λ k e lt differ. only.only k e (omega arith) differ)
+
     placed : HasRows signals rows table
     placed p below =
         let only = one p below in
@@ -179,11 +182,12 @@ all_found signals rows number table all most seen others found = (record { each 
 
 -- where a signal has none, they don't
 pub not_all_found : (signals : List Signal) (rows : List MatrixRow) (number : ℕ) (table : List ℕ) → length rows ≤ number → number < no_row
-  → ((p : ℕ) → p < length signals → HasRow rows number (name_at signals p) (get_or table p 0)) → OneRow signals rows → (p : ℕ) → p < length signals → get_or table p 0 ≢ no_row
+    → ((p : ℕ) → p < length signals → HasRow rows number (name_at signals p) (get_or table p 0)) → OneRow signals rows → (p : ℕ) → p < length signals → get_or table p 0 ≢ no_row
 not_all_found signals rows number table all small seen one p below free = by (seen p below)
   where
     signal : (s : Signal) × (s ≡ get_or signals p s)
     signal = element signals p below
+
     by : HasRow rows number (name_at signals p) (get_or table p 0) → ⊥
     by (inl none) =
         let zero_rows : count_by (is_named (name_at signals p)) rows ≡ 0 = count_none (is_named (name_at signals p)) rows (λ k d lt. none.1 k d (omega arith)) in

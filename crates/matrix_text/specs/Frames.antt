@@ -1,10 +1,10 @@
 -- The grouping of a placed matrix, and its classes by ascending identifier.
-use Rattle.std.specs.Prelude.{ℕ, ◌==◌, not, List, [], ◌∷◌, length, map, filter, find, Option, slice_get, slice_index, Bool}
+use Rattle.std.specs.Prelude.{ℕ, nat_eq, List, [], map, filter, find, slice_get, slice_index}
 use Rattle.std.specs.List.{list_any, position_or_len, range_with_len}
 use Rattle.std.specs.Option.{option_map_or}
 use Rattle.pack_model.specs.declared.signal.Signal.{Signal}
 use Rattle.pack_model.specs.declared.item.Item.{Item}
-use Rattle.pack_model.specs.Problem.{Parts}
+use Rattle.pack_model.specs.Problem.{Parts, distinct}
 use Rattle.matrix_text.specs.declared.matrix.MatrixRow.{MatrixRow}
 use Rattle.matrix_text.specs.Placed.{is_named}
 
@@ -20,23 +20,22 @@ identifier_of rows name = option_map_or (λ row. row.id) (find (is_named name) r
 abbrev pub identifiers_of : Parts → List MatrixRow → List ℕ
 identifiers_of problem rows = map (λ item. identifier_of rows (name_of_item problem.signals item)) problem.items
 
--- the different numbers of a list, each at its first place
-abbrev pub distinct : List ℕ → List ℕ
-distinct [] = []
-distinct (x ∷ xs) = x ∷ filter (λ y. not (x == y)) (distinct xs)
-
 -- the label of a number: its place among the different ones
 abbrev pub label_in : List ℕ → ℕ → ℕ
-label_in firsts id = position_or_len (λ x. x == id) firsts
+label_in firsts id = position_or_len (nat_eq id) firsts
 
 -- the identifiers of the frames, by their items' order
 abbrev pub frames_of : Parts → List MatrixRow → List ℕ
-frames_of problem rows = distinct (identifiers_of problem rows)
+frames_of problem rows = distinct nat_eq (identifiers_of problem rows)
 
 -- each item's label: items have one label where they have one frame, and labels are numbered by first use
 abbrev pub grouping_of : Parts → List MatrixRow → List ℕ
 grouping_of problem rows = map (label_in (frames_of problem rows)) (identifiers_of problem rows)
 
+-- all identifiers of base frames, as ISO 11898-1 has them
+unfoldable pub identifiers : List ℕ
+identifiers = range_with_len 0 2048
+
 -- the labels of the frames by ascending identifier
 abbrev pub order_of : Parts → List MatrixRow → List ℕ
-order_of problem rows = map (label_in (frames_of problem rows)) (filter (λ id. list_any (λ x. x == id) (frames_of problem rows)) (range_with_len 0 2048))
+order_of problem rows = map (label_in (frames_of problem rows)) (filter (λ id. list_any (nat_eq id) (frames_of problem rows)) identifiers)

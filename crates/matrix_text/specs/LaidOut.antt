@@ -6,6 +6,7 @@ use Rattle.pack_model.specs.declared.signal.Signal.{Signal}
 use Rattle.pack_model.specs.declared.item.Item.{Item}
 use Rattle.pack_model.specs.Problem.{Parts}
 use Rattle.pack_model.specs.Grouping.{class_of}
+use Rattle.pack_model.specs.ClassTimes.{signals_of_class}
 use Rattle.fd_length.specs.Size.{fd_size_of}
 use Rattle.frame_ticks.specs.Worst.{worst_ticks_of}
 use Rattle.ipdu_layout.specs.Layout.{bytes_of, start_of}
@@ -19,10 +20,6 @@ signals_at signals places = filter_map (slice_get signals) places
 -- the list places of the signals of a class, by item
 abbrev pub places_of_class : List Item → List ℕ → ℕ → List ℕ
 places_of_class items labels label = flat_map (λ item. item.members) (class_of label labels items)
-
--- the signals of a class
-abbrev pub signals_of_class : Parts → List ℕ → ℕ → List Signal
-signals_of_class problem labels label = signals_at problem.signals (places_of_class problem.items labels label)
 
 -- how many bits each signal has
 abbrev pub widths_of : List Signal → List ℕ

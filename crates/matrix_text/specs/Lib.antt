@@ -1,5 +1,6 @@
 pub mod Frames
 pub mod LaidOut
+pub mod MatrixText
 pub mod OnePlace
 pub mod Placed
 pub mod Row

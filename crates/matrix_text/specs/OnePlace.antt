@@ -1,10 +1,9 @@
 -- One place for each signal, said without layouts.
 use Rattle.std.specs.Prelude.{ℕ, ◌≡◌, ◌+◌, ◌*◌, ◌≤◌, List, count_by, All, AllPairs}
-use Rattle.pack_model.specs.declared.signal.Signal.{Signal}
 use Rattle.pack_model.specs.Problem.{Parts}
 use Rattle.ipdu_layout.specs.Layout.{Takes}
 use Rattle.matrix_text.specs.declared.matrix.MatrixRow.{MatrixRow}
-use Rattle.matrix_text.specs.Placed.{is_named, RowOf, place_of}
+use Rattle.matrix_text.specs.Placed.{is_named, place_of}
 
 -- the row's signal has the position in the frame of the identifier
 pub record Occupies (row : MatrixRow) (id position : ℕ) : Type 0 where

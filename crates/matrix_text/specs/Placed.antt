@@ -1,5 +1,5 @@
 -- The placed matrix: which rows are a communication matrix of a problem. Bit positions are those of AUTOSAR COM, data lengths those of ISO 11898-1.
-use Rattle.std.specs.Prelude.{ℕ, ◌≡◌, ◌+◌, ◌*◌, ◌≤◌, ◌<◌, ◌==◌, Bool, List, filter, map, count_by, sum_by, All, Any, AllPairs, Option, None, Some, is_some, IsSome}
+use Rattle.std.specs.Prelude.{ℕ, ◌≡◌, ◌+◌, ◌*◌, ◌≤◌, ◌==◌, Bool, List, filter, count_by, sum_by, All, Any, AllPairs, Some, is_some, IsSome}
 use Rattle.std.specs.Str.{bytes_eq}
 use Rattle.pack_model.specs.declared.signal.Signal.{Signal}
 use Rattle.pack_model.specs.declared.network.Network.{Network}
@@ -7,8 +7,7 @@ use Rattle.pack_model.specs.Problem.{Parts}
 use Rattle.fd_length.specs.Size.{fd_size_of}
 use Rattle.frame_ticks.specs.Worst.{worst_ticks_of}
 use Rattle.ipdu_layout.specs.declared.place.Place.{Place}
-use Rattle.ipdu_layout.specs.Layout.{IsApart, Takes, bytes_of}
-use Rattle.matrix_text.specs.declared.matrix.Header.{Header}
+use Rattle.ipdu_layout.specs.Layout.{IsApart, bytes_of}
 use Rattle.matrix_text.specs.declared.matrix.Header.TheVariants.{NoHeader}
 use Rattle.matrix_text.specs.declared.matrix.MatrixRow.{MatrixRow}
 

@@ -1,5 +1,5 @@
 -- Tables by identifier and by signal, which the checks of a matrix fill in one pass over its rows.
-use Rattle.std.specs.Prelude.{ℕ, ◌≡◌, ◌≢◌, ◌+◌, ◌*◌, ◌<◌, ◌≤◌, ◌==◌, List, [], map, Some, Bool, slice_index, slice_index_or, length, ◌⊎◌, if◌then◌else◌}
+use Rattle.std.specs.Prelude.{ℕ, ◌≡◌, ◌+◌, ◌*◌, ◌<◌, ◌≤◌, nat_eq, List, [], filter, not, Some, slice_index, slice_index_or, length, if◌then◌else◌}
 use Rattle.std.specs.List.{list_any, position_or_len}
 use Rattle.pack_model.specs.declared.network.Network.{Network}
 use Rattle.fd_length.specs.Size.{fd_size_of}
@@ -23,12 +23,16 @@ no_label = 4294967295
 -- each signal's place has the number of its first row
 abbrev pub HasRows : List Signal → List MatrixRow → List ℕ → Type 0
 HasRows signals rows row_of = (place : ℕ) → place < length signals →
-  (slice_index row_of place < length rows) × (position_or_len (is_named (slice_index_or (names_of signals) place [])) rows ≡ slice_index row_of place)
+    (slice_index row_of place < length rows) × (position_or_len (is_named (slice_index_or (names_of signals) place [])) rows ≡ slice_index row_of place)
+
+-- the label of an identifier in use
+abbrev pub label_or_none : List ℕ → ℕ → ℕ
+label_or_none firsts id = if list_any (nat_eq id) firsts then label_in firsts id else no_label
 
 -- each identifier in use has its label, and no other has one
 abbrev pub HasLabels : List ℕ → List ℕ → Type 0
 HasLabels firsts label_of = (id : ℕ) → id < 2048 →
-  slice_index label_of id ≡ (if list_any (λ x. x == id) firsts then label_in firsts id else no_label)
+    slice_index label_of id ≡ label_or_none firsts id
 
 -- the positions of a row's signal among those of all frames, by the frame's label
 abbrev pub place_among : List ℕ → MatrixRow → Place
@@ -50,3 +54,7 @@ pub record FitsBits (network : Network) (row : MatrixRow) (bits : ℕ) : Type 0 
   pub ticks : row.ticks ≡ worst_ticks_of network row.size
   pub from : 8 * row.at ≤ row.start
   pub below : row.start + row.bits ≤ 8 * (row.at + bytes_of bits)
+
+-- the labels of a table that are in use, by ascending identifier
+abbrev pub in_use : List ℕ → List ℕ
+in_use label_of = filter (λ label. not (nat_eq label no_label)) label_of

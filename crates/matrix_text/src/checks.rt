@@ -9,11 +9,10 @@ ghost use Rattle.matrix_text.specs.Placed.{SameFrame, FrameFits, InsidePart, bit
 ghost use Rattle.matrix_text.specs.Row.{RowInRange};
 ghost use Rattle.matrix_text.specs.Tables.{FitsBits, IsPlain};
 
+use crate::matrix::{Header, MatrixRow};
 use fd_length::fd_size;
 use frame_ticks::worst_ticks;
 use pack_model::Network;
-
-use crate::matrix::{Header, MatrixRow};
 
 /// No row, in a table from identifiers to rows.
 const NO_ROW: usize = usize::MAX;

@@ -4,9 +4,8 @@ ghost use Rattle.ipdu_layout.specs.Layout.{IsApart};
 ghost use Rattle.matrix_text.specs.Placed.{place_of};
 ghost use Rattle.matrix_text.specs.Tables.{LabelsApart, place_among};
 
-use ipdu_layout::{Place, mark};
-
 use crate::matrix::MatrixRow;
+use ipdu_layout::{Place, mark};
 
 /// The positions of 128 frames of 64 bytes.
 const POSITIONS: usize = 65536;

@@ -3,9 +3,8 @@ ghost use Rattle.std.specs.Prelude.{◌≡◌, ◌≢◌, ◌↔◌, IsTrue, Mat
 ghost use Rattle.matrix_text.specs.Placed.{OneRow, RowOf};
 ghost use Rattle.matrix_text.specs.Tables.{HasRows};
 
-use pack_model::{Problem, Signal};
-
 use crate::matrix::MatrixRow;
+use pack_model::{Problem, Signal};
 
 /// No row, in a table from places to rows.
 const NO_ROW: usize = usize::MAX;

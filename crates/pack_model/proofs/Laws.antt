@@ -1,19 +1,18 @@
 -- What follows of a problem, for the crates above.
-use Rattle.std.proofs.Common.{◌≡◌, ◌≤◌, ◌<◌, ◌+◌, ℕ, Bool, true, false, cond, List, [], ◌∷◌, ◌++◌, length, map, take, get_or, suc, zero, if◌then◌else◌, append-nil, get_or-take, true≢false, Option, None, Some, Result, Ok, Err, refl, sym, ap, subst, ◌∙◌, ◌||◌, arith, nat_lt, nat_eq, length-take, zero-add, All, AllPairs, Contains, append_assoc}
-use Rattle.std.specs.List.{list_any, enumerate_from, position_or_len}
+use Rattle.std.proofs.Common.{◌≡◌, ◌≤◌, ◌<◌, ◌+◌, ℕ, Bool, true, false, List, [], ◌∷◌, ◌++◌, length, take, get_or, suc, zero, if◌then◌else◌, append-nil, get_or-take, true≢false, Option, None, Some, Result, Ok, Err, refl, sym, ap, subst, ◌∙◌, arith, nat_lt, nat_eq, length-take, zero-add, All, Contains, append_assoc}
+use Rattle.std.specs.List.{list_any, enumerate_from}
 use Rattle.std.specs.Str.{bytes_eq}
-use Rattle.std.specs.Cmp.Lexicographic.{nat_list_eq_equiv}
 use Rattle.std.proofs.lemmas.Bool.{ltb-false, eqb-false}
-use Rattle.std.proofs.lemmas.List.{length-map, get_or-map, get_or_default}
+use Rattle.std.proofs.lemmas.List.{length-map, get_or-map}
 use Rattle.std.proofs.lemmas.List.FromFn.{length-enumerate_from, get_or-enumerate_from}
 use Rattle.std.proofs.lemmas.List.Folds.{list_any_at}
 use Rattle.std.proofs.lemmas.List.Sorted.{All-permutation, Contains-permutation}
-use Rattle.std.proofs.lemmas.List.Elements.{All-map, Contains-get_or}
+use Rattle.std.proofs.lemmas.List.Elements.{All-map}
 use Rattle.pack_model.specs.declared.problem.ProblemFault.{ProblemFault}
 use Rattle.pack_model.specs.declared.problem.ProblemFault.TheVariants.{NoSignals, TooManySignals, TooManyItems, TwiceNamed}
 use Rattle.pack_model.specs.declared.signal.Signal.{Signal}
 use Rattle.pack_model.specs.declared.item.Item.{Item}
-use Rattle.pack_model.specs.Problem.{Parts, IsProblem, IsSorted, problem_of, parts_of, names_of, senders_of, items_of, items_in_order, free_item, first_repeat, twice_named}
+use Rattle.pack_model.specs.Problem.{Parts, IsProblem, IsSorted, parts_of, names_of, senders_of, items_of, items_in_order, free_item, first_repeat, twice_named}
 
 -- what is passed at an Ok
 passed : {A E : Type 0} (b : Bool) (e : E) (r : Result A E) (x : A) → (if b then Err e else r) ≡ Ok x → (b ≡ false) × (r ≡ Ok x)
@@ -81,8 +80,8 @@ members_in_order : (signals : List Signal) → All (λ item. (m : ℕ) × (item.
 members_in_order signals =
     All-map (λ (item : Item). (m : ℕ) × (item.members ≡ m ∷ []) × (m < length signals)) (free_item (senders_of signals)) (enumerate_from 0 signals)
     (λ k d lt.
-      let within : k < length signals = simp length-enumerate_from at lt in
-      (k, ap (λ (e : ℕ × Signal). e.0 ∷ []) (get_or-enumerate_from 0 signals k d within) ∙ ap (λ n. n ∷ []) (omega arith), within))
+    let within : k < length signals = simp length-enumerate_from at lt in
+    (k, ap (λ (e : ℕ × Signal). e.0 ∷ []) (get_or-enumerate_from 0 signals k d within) ∙ ap (λ n. n ∷ []) (omega arith), within))
 
 -- each item is one signal alone
 pub members : (signals : List Signal) (items : List Item) → IsSorted signals items → All (λ item. (m : ℕ) × (item.members ≡ m ∷ []) × (m < length signals)) items
@@ -101,6 +100,6 @@ in_an_item signals items sorted place lt =
     let in_pairs : place < length (enumerate_from 0 signals) = simp length-enumerate_from lt in
     let in_items : place < length (items_in_order signals) = simp (length-map, length-enumerate_from) lt in
     let at : get_or (items_in_order signals) place item ≡ item =
-      get_or-map (free_item (senders_of signals)) (enumerate_from 0 signals) place (place, found.0) item in_pairs
-      ∙ ap (free_item (senders_of signals)) (get_or-enumerate_from 0 signals place (place, found.0) lt ∙ (λ k. (zero-add place k, sym found.1 k))) in
+    get_or-map (free_item (senders_of signals)) (enumerate_from 0 signals) place (place, found.0) item in_pairs
+    ∙ ap (free_item (senders_of signals)) (get_or-enumerate_from 0 signals place (place, found.0) lt ∙ (λ k. (zero-add place k, sym found.1 k))) in
     (item, Contains-permutation (items_in_order signals) items item sorted (place, in_items, at), refl)

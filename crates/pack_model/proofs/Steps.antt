@@ -71,10 +71,10 @@ names_found f xs i x keys name new lt at is added old so_far rest =
 -- the step of the loop over senders
 pub senders_step : {X : Type 0} (f : X → List ℕ) (xs : List X) (i : ℕ) (x : X) (keys now : List (List ℕ)) (name : List ℕ)
     → i < length xs → x ≡ get_or xs i x → name ≡ f x → now ≡ insert_key bytes_eq keys name
-    → keys ≡ distinct (take i (map f xs)) → now ≡ distinct (take (i + 1) (map f xs))
+    → keys ≡ distinct bytes_eq (take i (map f xs)) → now ≡ distinct bytes_eq (take (i + 1) (map f xs))
 senders_step f xs i x keys now name lt at is puts so_far =
     puts ∙ ap (λ n. insert_key bytes_eq keys n) is ∙ ap (λ k. insert_key bytes_eq k (f x)) so_far
-    ∙ sym (ap distinct (take-map_more f xs i x lt at) ∙ distinct-push (take i (map f xs)) (f x))
+    ∙ sym (ap (distinct {X = List ℕ} bytes_eq) (take-map_more f xs i x lt at) ∙ distinct-push bytes_eq nat_list_eq_equiv (take i (map f xs)) (f x))
 
 -- the step of the loop over items
 pub items_step : (signals : List Signal) (i : ℕ) (s : Signal) (items now : List Item) (senders : List (List ℕ)) (number : ℕ) (members : List ℕ)
@@ -93,12 +93,12 @@ items_step signals i s items now senders number members lt at numbered one is pu
 pub sender_there : (signals : List Signal) (i : ℕ) (s : Signal) → i < length signals → s ≡ get_or signals i s → list_any (bytes_eq s.sender) (senders_of signals) ≡ true
 sender_there signals i s lt at =
     let in_map : i < length (map (λ (t : Signal). t.sender) signals) = simp length-map lt in
-    list_any-distinct s.sender (map (λ t. t.sender) signals)
+    list_any-distinct bytes_eq nat_list_eq_equiv s.sender (map (λ t. t.sender) signals)
     ∙ list_any_at (bytes_eq s.sender) (map (λ t. t.sender) signals) i s.sender in_map
     (ap (bytes_eq s.sender) (get_or-map (λ (t : Signal). t.sender) signals i s s.sender lt ∙ ap (λ (t : Signal). t.sender) (sym at)) ∙ nat_list_eq_equiv.refl s.sender)
 
 pub few_senders : (signals : List Signal) → length (senders_of signals) ≤ length signals
-few_senders signals = omega (arith, length-distinct (map (λ (t : Signal). t.sender) signals), length-map signals (λ (t : Signal). t.sender))
+few_senders signals = omega (arith, length-distinct bytes_eq nat_list_eq_equiv (map (λ (t : Signal). t.sender) signals), length-map signals (λ (t : Signal). t.sender))
 
 -- what passes the test somewhere has a first place
 pub first_place : {X : Type 0} (p : X → Bool) (xs : List X) → list_any p xs ≡ true → position_or_len p xs < length xs

@@ -1,3 +1,4 @@
+pub mod ClassTimes
 pub mod Grouping
 pub mod Name
 pub mod Network

@@ -1,5 +1,5 @@
 -- The problem of a network and its signals. Items stand for AUTOSAR COM's I-PDUs with fixed layout; limits are the project's own.
-use Rattle.std.specs.Prelude.{ℕ, ◌+◌, not, ◌==◌, nat_lt, List, [], ◌∷◌, ◌++◌, length, map, filter, Option, None, Some, Result, Ok, Err, if◌then◌else◌, ◌≡◌, All, ⊤}
+use Rattle.std.specs.Prelude.{Bool, ℕ, ◌+◌, not, ◌==◌, nat_lt, List, [], ◌∷◌, ◌++◌, length, map, filter, Option, None, Some, Result, Ok, Err, if◌then◌else◌, ◌≡◌, All, ⊤}
 use Rattle.std.specs.List.{list_any, enumerate_from, flat_map, range_with_len, position_or_len}
 use Rattle.std.specs.List.Sorted.{IsPermutation}
 use Rattle.std.specs.Str.{bytes_eq}
@@ -27,14 +27,14 @@ abbrev pub first_repeat : List (List ℕ) → List (List ℕ) → Option ℕ
 first_repeat earlier [] = None
 first_repeat earlier (x ∷ xs) = if list_any (bytes_eq x) earlier then Some (length earlier) else first_repeat (earlier ++ x ∷ []) xs
 
--- the different names of a list, each at its first place
-abbrev pub distinct : List (List ℕ) → List (List ℕ)
-distinct [] = []
-distinct (x ∷ xs) = x ∷ filter (λ y. not (bytes_eq x y)) (distinct xs)
+-- the different elements of a list, each at its first place
+abbrev pub distinct : {X : Type 0} → (X → X → Bool) → List X → List X
+distinct eq [] = []
+distinct eq (x ∷ xs) = x ∷ filter (λ y. not (eq x y)) (distinct eq xs)
 
 -- the senders, by their first place in the list
 abbrev pub senders_of : List Signal → List (List ℕ)
-senders_of signals = distinct (map (λ s. s.sender) signals)
+senders_of signals = distinct bytes_eq (map (λ s. s.sender) signals)
 
 -- the item of a free signal at a place, which is alone in it; its sender by number
 abbrev pub free_item : List (List ℕ) → ℕ × Signal → Item

@@ -18,5 +18,5 @@ pub use lists::{Chain, Labels, Payload, Values};
 pub use memory::Memory;
 pub use name::{Name, NameFault};
 pub use network::{Network, network_stands};
-pub use problem::{Problem, ProblemFault};
+pub use problem::{Problem, ProblemFault, problem_of};
 pub use signal::{Signal, Signals, signal_stands};

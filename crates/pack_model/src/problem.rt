@@ -249,3 +249,51 @@ fn sort_by_sender(items: &mut Vec<Item>) -> Result<(), Memory>
     items.sort_by_key(|item| item.sender)?;
     Ok(())
 }
+
+#[cfg(test)]
+mod tests {
+    use super::*;
+    use crate::network::network_stands;
+    use crate::signal::signal_stands;
+    use std::test::Fail;
+
+    fn are_shared<T: Send + Sync>() {}
+
+    fn signal(alloc: Global, name: &[u8], sender: &[u8], bits: u32) -> Result<Signal, Fail> {
+        Ok(Signal {
+            name: Name::new(alloc, name)?,
+            sender: Name::new(alloc, sender)?,
+            pdu: None,
+            bits,
+            period_us: 10000,
+            deadline_us: 10000,
+            jitter_us: 0,
+        })
+    }
+
+    #[test]
+    fn items_by_sender(rt: HostRuntime) -> Result<(), Fail> {
+        are_shared::<Problem>();
+        let network = Network {
+            ticks_per_us: 80,
+            nominal_ticks: 160,
+            data_ticks: 40,
+            first_id: 256,
+        };
+        let mut signals = Vec::new(rt.alloc());
+        for (name, sender, bits) in [(b"S1", b"E1", 8), (b"S2", b"E2", 3), (b"S3", b"E1", 5)] {
+            signals.push(signal(rt.alloc(), name.as_slice(), sender.as_slice(), bits)?)?;
+        }
+        assert!(rt; network_stands(&network) && signals.iter().all(signal_stands));
+        assert!(rt; signals.iter().all(|signal| signal.pdu.is_none()));
+        let problem = problem_of(rt.alloc(), network, signals)?;
+        let places = [(0, 0, 8), (0, 2, 5), (1, 1, 3)];
+        assert_eq!(rt; problem.items().len(), places.len());
+        for (item, (sender, place, bits)) in problem.items().iter().zip(places) {
+            assert_eq!(rt; (item.sender, item.bits), (sender, bits));
+            assert_eq!(rt; item.members.as_slice(), [place].as_slice());
+        }
+        assert_eq!(rt; problem.senders().len(), 2);
+        Ok(())
+    }
+}

@@ -1,3 +1,4 @@
 pub mod Starts
 pub mod Verdicts
 pub mod Worst
+pub mod Checks

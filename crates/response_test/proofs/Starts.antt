@@ -1,5 +1,5 @@
 -- Laws of the demand before an instance, and of the times at which instances start.
-use Rattle.std.proofs.Common.{◌≡◌, ℕ, ◌+◌, ◌-◌, ◌*◌, ◌<◌, ◌≤◌, inl, inr, List, length, nat_eq, ap, arith}
+use Rattle.std.proofs.Common.{◌≡◌, ℕ, ◌+◌, ◌-◌, ◌*◌, ◌<◌, ◌≤◌, inl, inr, List, length, nat_eq, arith}
 use Rattle.std.specs.List.{IsDistinct}
 use Rattle.std.specs.Int.{div_ceil}
 use Rattle.std.proofs.lemmas.Bool.{cases_lt}
@@ -7,35 +7,32 @@ use Rattle.std.proofs.lemmas.Grind.{div_ceil_times}
 use Rattle.std.proofs.lemmas.List.Elements.{All-get_or}
 use Rattle.std.proofs.Math.Nat.{mul-le-mul_right, lt_of_mul-lt-mul_right}
 use Rattle.busy_period.specs.declared.timed.Timed.{Timed}
-use Rattle.busy_period.specs.Timed.{IsInRange, none_frame, frame_at}
-use Rattle.busy_period.specs.Stage.{IsStage, own_number, own_of, higher_of}
-use Rattle.busy_period.specs.Demand.{instances_of, asks_of, work_of, demand_of, IsSameTest}
+use Rattle.busy_period.specs.Timed.{IsInRange, none_frame}
+use Rattle.busy_period.specs.Stage.{IsStage, IsSameSet, own_number, own_of, higher_of}
+use Rattle.busy_period.specs.Demand.{instances_of, asks_of, work_of, blocking_of, demand_of}
 use Rattle.busy_period.specs.Busy.{IsBusy, LeastBusy}
-use Rattle.busy_period.proofs.Sums.{IsDistinct-take}
 use Rattle.busy_period.proofs.Stages.{work-le, work-same_set, own_is_in_range}
-use Rattle.response_test.specs.Queueing.{IsBit, queueing_of}
+use Rattle.response_test.specs.Queueing.{IsBit, queueing_against, queueing_of}
 use Rattle.response_test.specs.Passing.{CanStart}
 
 -- the demand before an instance never falls in time
-pub queueing-le : (frames : List Timed) (order : List ℕ) (place bit instance earlier later : ℕ) → earlier ≤ later
-    → queueing_of frames order place bit instance earlier ≤ queueing_of frames order place bit instance later
-queueing-le frames order place bit instance earlier later le =
-    omega (arith, work-le frames (higher_of order place) (earlier + bit) (later + bit) (omega arith))
+pub queueing-le : (frames : List Timed) (own : ℕ) (higher lower : List ℕ) (bit instance earlier later : ℕ) → earlier ≤ later
+    → queueing_against frames own higher lower bit instance earlier ≤ queueing_against frames own higher lower bit instance later
+queueing-le frames own higher lower bit instance earlier later le =
+    omega (arith, work-le frames higher (earlier + bit) (later + bit) (omega arith))
 
 -- it depends on the higher frames as a set, and on the lower ones by their greatest ticks
-pub queueing-same_test : (frames : List Timed) (order : List ℕ) (place : ℕ) (order' : List ℕ) (place' : ℕ)
-    → IsDistinct nat_eq order → IsDistinct nat_eq order' → IsSameTest frames order place order' place'
+pub queueing-same_sets : (frames : List Timed) (own : ℕ) (higher lower higher' lower' : List ℕ)
+    → IsDistinct nat_eq higher → IsDistinct nat_eq higher' → IsSameSet higher higher'
+    → blocking_of frames lower ≡ blocking_of frames lower'
     → (bit instance start : ℕ)
-    → queueing_of frames order place bit instance start ≡ queueing_of frames order' place' bit instance start
-queueing-same_test frames order place order' place' distinct distinct' same bit instance start =
-    let work : work_of frames (higher_of order place) (start + bit) ≡ work_of frames (higher_of order' place') (start + bit) =
-    work-same_set frames _ _ (start + bit) (IsDistinct-take place order distinct) (IsDistinct-take place' order' distinct') same.higher in
-    let own : instance * (own_of frames order place).ticks ≡ instance * (own_of frames order' place').ticks =
-    ap (λ i. instance * (frame_at frames i).ticks) same.own in
-    omega (arith, same.lower, work, own)
+    → queueing_against frames own higher lower bit instance start ≡ queueing_against frames own higher' lower' bit instance start
+queueing-same_sets frames own higher lower higher' lower' distinct distinct' same blocked bit instance start =
+    omega (arith, blocked, work-same_set frames higher higher' (start + bit) distinct distinct' same)
 
 -- the frame under test is no shorter than a bit
-pub bit-le-own : (frames : List Timed) (order : List ℕ) (place bit : ℕ) → IsStage frames order place → IsBit frames bit
+pub bit-le-own : (frames : List Timed) (order : List ℕ) (place bit : ℕ) → IsStage frames order place
+    → IsBit frames bit
     → bit ≤ (own_of frames order place).ticks
 bit-le-own frames order place bit stage is_bit =
     All-get_or (λ frame. bit ≤ frame.ticks) frames (own_number order place) none_frame
@@ -56,7 +53,8 @@ quotient-le a y q some le =
     omega arith
 
 -- each instance in a busy period can start the time of one sending before its end
-pub starts_before_end : (frames : List Timed) (order : List ℕ) (place bit instance busy : ℕ) → IsStage frames order place → IsBit frames bit
+pub starts_before_end : (frames : List Timed) (order : List ℕ) (place bit instance busy : ℕ)
+    → IsStage frames order place → IsBit frames bit
     → IsBusy (demand_of frames order place) busy → instance < instances_of (own_of frames order place) busy
     → ((own_of frames order place).ticks ≤ busy) × CanStart (queueing_of frames order place bit) instance (busy - (own_of frames order place).ticks)
 starts_before_end frames order place bit instance busy stage is_bit it inside =
@@ -70,8 +68,10 @@ starts_before_end frames order place bit instance busy stage is_bit it inside =
     (whole, omega arith)
 
 -- no instance in the busy period starts before it arrives
-pub starts_after_arrival : (frames : List Timed) (order : List ℕ) (place bit instance busy start : ℕ) → IsStage frames order place
-    → LeastBusy (own_of frames order place) (demand_of frames order place) busy → instance < instances_of (own_of frames order place) busy
+pub starts_after_arrival : (frames : List Timed) (order : List ℕ) (place bit instance busy start : ℕ)
+    → IsStage frames order place
+    → LeastBusy (own_of frames order place) (demand_of frames order place) busy
+    → instance < instances_of (own_of frames order place) busy
     → CanStart (queueing_of frames order place bit) instance start
     → instance * (own_of frames order place).period ≤ (own_of frames order place).jitter + start
 starts_after_arrival frames order place bit instance busy start stage least inside can_start =

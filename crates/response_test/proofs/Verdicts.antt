@@ -1,19 +1,17 @@
 -- Passing and being shown to pass are one.
-use Rattle.std.proofs.Common.{◌≡◌, ℕ, ◌+◌, ◌<◌, ◌≤◌, ◌⊎◌, inl, inr, List, length, get_or, nat_eq, Option, Some, None, IsSome, IfNone, refl, ap, subst, sym, arith}
+use Rattle.std.proofs.Common.{◌≡◌, ℕ, ◌+◌, ◌<◌, ◌≤◌, ◌⊎◌, inl, inr, List, length, get_or, nat_eq, Option, Some, None, IsSome, IfNone, refl, subst, arith}
 use Rattle.std.specs.List.{IsDistinct}
 use Rattle.busy_period.specs.declared.timed.Timed.{Timed}
-use Rattle.busy_period.specs.Stage.{own_of}
-use Rattle.busy_period.specs.Timed.{frame_at}
-use Rattle.busy_period.specs.Demand.{instances_of, demand_of, IsSameTest}
+use Rattle.busy_period.specs.Stage.{IsSameSet}
+use Rattle.busy_period.specs.Demand.{instances_of, blocking_of}
 use Rattle.busy_period.specs.Least.{IsLeast}
 use Rattle.busy_period.specs.Busy.{IsBusy, LeastBusy}
 use Rattle.busy_period.proofs.Instances.{div_ceil-le}
 use Rattle.busy_period.proofs.Least.{least_exists, least_unique, le_decided}
-use Rattle.busy_period.proofs.Stages.{demand-same_test}
-use Rattle.response_test.specs.Queueing.{queueing_of}
+use Rattle.busy_period.proofs.Stages.{demand-same_sets}
 use Rattle.response_test.specs.Passing.{CanStart, IsInTime, InstancePasses, InstanceShown, Passes, Shown}
-use Rattle.response_test.specs.Frame.{FramePasses, IsShown}
-use Rattle.response_test.proofs.Starts.{queueing-same_test}
+use Rattle.response_test.specs.Frame.{PassesAgainst, FramePasses, IsShown}
+use Rattle.response_test.proofs.Starts.{queueing-same_sets}
 
 -- whether a time is busy
 busy_decided : (demand : ℕ → ℕ) (time : ℕ) → IsBusy demand time ⊎ (¬ (IsBusy demand time))
@@ -39,7 +37,8 @@ instance_passes own queueing instance it =
     }
 
 -- what is shown to pass passes: the least busy period is shorter, so it has no more instances
-pub passes_from_shown : (own : Timed) (demand : ℕ → ℕ) (queueing : ℕ → ℕ → ℕ) → Shown own demand queueing → Passes own demand queueing
+pub passes_from_shown : (own : Timed) (demand : ℕ → ℕ) (queueing : ℕ → ℕ → ℕ) → Shown own demand queueing
+    → Passes own demand queueing
 passes_from_shown own demand queueing it =
     let found : (k : ℕ) × IsLeast (IsBusy demand) k = least_exists (IsBusy demand) (busy_decided demand) it.busy it.holds.busy in
     let le : found.0 ≤ it.busy = found.1.least it.busy it.holds.busy in
@@ -51,7 +50,8 @@ passes_from_shown own demand queueing it =
     }
 
 -- the least busy period and the least starts show it
-pub shown_from_passes : (own : Timed) (demand : ℕ → ℕ) (queueing : ℕ → ℕ → ℕ) → Passes own demand queueing → Shown own demand queueing
+pub shown_from_passes : (own : Timed) (demand : ℕ → ℕ) (queueing : ℕ → ℕ → ℕ) → Passes own demand queueing
+    → Shown own demand queueing
 shown_from_passes own demand queueing it =
     record {
       busy = it.busy;
@@ -63,7 +63,8 @@ shown_from_passes own demand queueing it =
 
 -- demands that agree at each time show the same
 pub shown_along : (own : Timed) (demand demand' : ℕ → ℕ) (queueing queueing' : ℕ → ℕ → ℕ)
-    → ((time : ℕ) → demand time ≡ demand' time) → ((instance start : ℕ) → queueing instance start ≡ queueing' instance start)
+    → ((time : ℕ) → demand time ≡ demand' time)
+    → ((instance start : ℕ) → queueing instance start ≡ queueing' instance start)
     → Shown own demand queueing → Shown own demand' queueing'
 shown_along own demand demand' queueing queueing' same same' it =
     record {
@@ -77,17 +78,19 @@ shown_along own demand demand' queueing queueing' same same' it =
           record { start = one.start; can_start = omega (arith, one.can_start, same' instance one.start); in_time = one.in_time };
     }
 
--- a frame passes as well at another place with the same test
-pub passes-same_test : (frames : List Timed) (order : List ℕ) (place : ℕ) (order' : List ℕ) (place' : ℕ)
-    → IsDistinct nat_eq order → IsDistinct nat_eq order' → IsSameTest frames order place order' place'
-    → (bit : ℕ) → FramePasses frames order place bit → FramePasses frames order' place' bit
-passes-same_test frames order place order' place' distinct distinct' same bit it =
-    let own : own_of frames order place ≡ own_of frames order' place' = ap (frame_at frames) same.own in
-    let shown' : Shown (own_of frames order place) (demand_of frames order' place') (queueing_of frames order' place' bit) =
-    shown_along _ _ _ _ _ (demand-same_test frames order place order' place' distinct distinct' same)
-    (queueing-same_test frames order place order' place' distinct distinct' same bit) (shown_from_passes _ _ _ it) in
-    let P : Timed → Type 0 = λ frame. Shown frame (demand_of frames order' place') (queueing_of frames order' place' bit) in
-    passes_from_shown _ _ _ (subst P own shown')
+-- a frame passes as well against the same higher frames in another order, and lower ones that block as long
+pub passes-same_sets : (frames : List Timed) (own : ℕ) (higher lower higher' lower' : List ℕ)
+    → IsDistinct nat_eq higher → IsDistinct nat_eq higher' → IsSameSet higher higher'
+    → blocking_of frames lower ≡ blocking_of frames lower'
+    → (bit : ℕ) → PassesAgainst frames own higher lower bit → PassesAgainst frames own higher' lower' bit
+passes-same_sets frames own higher lower higher' lower' distinct distinct' same blocked bit it =
+    passes_from_shown _ _ _
+    (shown_along _ _ _ _ _ (demand-same_sets frames own higher lower higher' lower' distinct distinct' same blocked)
+    (queueing-same_sets frames own higher lower higher' lower' distinct distinct' same blocked bit) (shown_from_passes _ _ _ it))
+
+-- the same set the other way round
+pub same_set_back : (xs ys : List ℕ) → IsSameSet xs ys → IsSameSet ys xs
+same_set_back xs ys same = record { there = same.back; back = same.there }
 
 -- given numbers that show it imply that the frame passes
 pub passes_from_numbers : (frames : List Timed) (order : List ℕ) (place bit busy : ℕ) (starts : List ℕ)
@@ -101,19 +104,11 @@ passes_from_numbers frames order place bit busy starts it =
           record { start = get_or starts instance 0; can_start = it.can_start instance inside'; in_time = it.in_time instance inside' };
     })
 
--- the same test the other way round
-pub same_test_back : (frames : List Timed) (order : List ℕ) (place : ℕ) (order' : List ℕ) (place' : ℕ)
-    → IsSameTest frames order place order' place' → IsSameTest frames order' place' order place
-same_test_back frames order place order' place' same =
-    record {
-      own = sym same.own;
-      higher = record { there = same.higher.back; back = same.higher.there };
-      lower = sym same.lower;
-    }
-
 -- where the frame passes, the least start of each instance in its busy period is in time
-pub in_time_from_passes : (own : Timed) (demand : ℕ → ℕ) (queueing : ℕ → ℕ → ℕ) (busy instance start : ℕ) → Passes own demand queueing
-    → LeastBusy own demand busy → instance < instances_of own busy → IsLeast (CanStart queueing instance) start → IsInTime own instance start
+pub in_time_from_passes : (own : Timed) (demand : ℕ → ℕ) (queueing : ℕ → ℕ → ℕ) (busy instance start : ℕ)
+    → Passes own demand queueing
+    → LeastBusy own demand busy → instance < instances_of own busy → IsLeast (CanStart queueing instance) start
+    → IsInTime own instance start
 in_time_from_passes own demand queueing busy instance start it least inside first =
     let same : busy ≡ it.busy = least_unique (IsBusy demand) busy it.busy least.busy it.least.busy in
     let P : ℕ → Type 0 = λ time. instance < instances_of own time in

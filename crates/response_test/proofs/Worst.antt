@@ -16,14 +16,16 @@ pub record IsWorstSoFar (own : Timed) (queueing : ℕ → ℕ → ℕ) (count wo
   pub greatest : (k response : ℕ) → k < count → Responds own queueing k response → response ≤ worst
 
 -- an instance has one response
-pub responds_once : (own : Timed) (queueing : ℕ → ℕ → ℕ) (instance response response' : ℕ) → Responds own queueing instance response
+pub responds_once : (own : Timed) (queueing : ℕ → ℕ → ℕ) (instance response response' : ℕ)
+    → Responds own queueing instance response
     → Responds own queueing instance response' → response ≡ response'
 responds_once own queueing instance response response' one other =
     let same : one.start ≡ other.start = least_unique (CanStart queueing instance) one.start other.start one.least other.least in
     omega (arith, one.ends, other.ends)
 
 -- one more instance is one more step of the greatest
-pub worst_so_far_more : (own : Timed) (queueing : ℕ → ℕ → ℕ) (count worst response worst' : ℕ) → IsWorstSoFar own queueing count worst
+pub worst_so_far_more : (own : Timed) (queueing : ℕ → ℕ → ℕ) (count worst response worst' : ℕ)
+    → IsWorstSoFar own queueing count worst
     → Responds own queueing count response → worst' ≡ max response worst → IsWorstSoFar own queueing (count + 1) worst'
 worst_so_far_more own queueing count worst response worst' it next is =
     let P : ℕ → Type 0 = λ r. Responds own queueing count r in
@@ -61,7 +63,8 @@ some_instance own busy some period =
     ]
 
 -- the greatest of all instances in the busy period is the worst response
-pub worst_of_all : (own : Timed) (demand : ℕ → ℕ) (queueing : ℕ → ℕ → ℕ) (busy count worst : ℕ) → 1 ≤ own.period → LeastBusy own demand busy
+pub worst_of_all : (own : Timed) (demand : ℕ → ℕ) (queueing : ℕ → ℕ → ℕ) (busy count worst : ℕ) → 1 ≤ own.period
+    → LeastBusy own demand busy
     → count ≡ instances_of own busy → IsWorstSoFar own queueing count worst → WorstResponse own demand queueing worst
 worst_of_all own demand queueing busy count worst period least all it =
     let some : 0 < instances_of own busy = some_instance own busy least.busy.holds.some period in

@@ -1,3 +1,4 @@
 pub mod Queueing
 pub mod Passing
 pub mod Frame
+pub mod Checked

@@ -1,8 +1,7 @@
 ghost use Rattle.std.specs.Prelude.{ℕ, ◌≤◌, ◌↔◌, IsTrue};
-ghost use Rattle.busy_period.specs.Stage.{IsStage, own_of};
-ghost use Rattle.response_test.specs.Queueing.{IsBit, queueing_of};
-ghost use Rattle.response_test.specs.Passing.{CanStart, IsInTime};
-ghost use Rattle.response_test.specs.Frame.{FramePasses, IsShown};
+ghost use Rattle.busy_period.specs.Stage.{IsStage};
+ghost use Rattle.response_test.specs.Queueing.{IsBit};
+ghost use Rattle.response_test.specs.Frame.{FrameCanStart, FrameIsInTime, FramePasses, IsShown};
 
 use crate::queue::{latest_start, queueing};
 use busy_period::{Timed, busy_holds};
@@ -21,8 +20,8 @@ fn instance_shown(
     requires bit { IsBit frames.now bit }
     requires instance { instance ≤ 256 }
     ensures { IsTrue result
-        ↔ (CanStart (queueing_of frames.now order.now place bit) instance start
-        × IsInTime (own_of frames.now order.now place) instance start) }
+        ↔ (FrameCanStart frames.now order.now place bit instance start
+        × FrameIsInTime frames.now order.now place instance start) }
 {
     let own = frames[order[place] as usize];
     let Some(latest) = latest_start(own, instance) else {
@@ -44,7 +43,7 @@ pub fn shown(frames: &[Timed], order: &[u32], place: usize, bit: u64, t: u64, w:
         return false;
     }
     let own = frames[order[place] as usize];
-    if w.len() as u64 != (t + own.jitter).div_ceil(own.period) {
+    if w.len() as u64 != own.instances(t) {
         return false;
     }
     for (instance, &start) in w.iter().enumerate() {

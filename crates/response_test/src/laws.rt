@@ -1,32 +1,38 @@
 ghost use Rattle.std.specs.Prelude.{◌≡◌, ℕ, ◌≤◌, ◌↔◌, List, nat_eq};
 ghost use Rattle.std.specs.List.{IsDistinct};
 ghost use Rattle.busy_period.specs.declared.timed.Timed.{Timed};
-ghost use Rattle.busy_period.specs.Demand.{IsSameTest};
-ghost use Rattle.response_test.specs.Queueing.{queueing_of};
+ghost use Rattle.busy_period.specs.Stage.{IsSameSet};
+ghost use Rattle.busy_period.specs.Demand.{blocking_of};
+ghost use Rattle.response_test.specs.Queueing.{queueing_against};
 ghost use Rattle.response_test.specs.Passing.{Passes, Shown};
-ghost use Rattle.response_test.specs.Frame.{FramePasses, IsShown};
+ghost use Rattle.response_test.specs.Frame.{PassesAgainst, FramePasses, IsShown};
 
 /// A law: the demand before an instance never falls in time.
 pub fn queueing_never_falls()
-    ensures { (frames : List Timed) (order : List ℕ) (place bit instance earlier later : ℕ) → earlier ≤ later
-        → queueing_of frames order place bit instance earlier ≤ queueing_of frames order place bit instance later }
+    ensures { (frames : List Timed) (own : ℕ) (higher lower : List ℕ) (bit instance earlier later : ℕ) → earlier ≤ later
+        → queueing_against frames own higher lower bit instance earlier
+        ≤ queueing_against frames own higher lower bit instance later }
 {}
 
 /// A law: the demand before an instance, and with it the written test, depends on the higher frames as a set, and on
 /// the lower ones by their greatest ticks alone.
 pub fn test_depends_on_sets()
-    ensures queueing { (frames : List Timed) (order : List ℕ) (place : ℕ) (order' : List ℕ) (place' : ℕ)
-        → IsDistinct nat_eq order → IsDistinct nat_eq order' → IsSameTest frames order place order' place'
+    ensures queueing { (frames : List Timed) (own : ℕ) (higher lower higher' lower' : List ℕ)
+        → IsDistinct nat_eq higher → IsDistinct nat_eq higher' → IsSameSet higher higher'
+        → blocking_of frames lower ≡ blocking_of frames lower'
         → (bit instance start : ℕ)
-        → queueing_of frames order place bit instance start ≡ queueing_of frames order' place' bit instance start }
-    ensures passes { (frames : List Timed) (order : List ℕ) (place : ℕ) (order' : List ℕ) (place' : ℕ)
-        → IsDistinct nat_eq order → IsDistinct nat_eq order' → IsSameTest frames order place order' place'
-        → (bit : ℕ) → FramePasses frames order place bit ↔ FramePasses frames order' place' bit }
+        → queueing_against frames own higher lower bit instance start
+        ≡ queueing_against frames own higher' lower' bit instance start }
+    ensures passes { (frames : List Timed) (own : ℕ) (higher lower higher' lower' : List ℕ)
+        → IsDistinct nat_eq higher → IsDistinct nat_eq higher' → IsSameSet higher higher'
+        → blocking_of frames lower ≡ blocking_of frames lower'
+        → (bit : ℕ) → PassesAgainst frames own higher lower bit ↔ PassesAgainst frames own higher' lower' bit }
 {}
 
 /// A law: a frame passes exactly where some busy period and some starts show it, whatever its demands are.
 pub fn passing_is_being_shown()
-    ensures { (own : Timed) (demand : ℕ → ℕ) (queueing : ℕ → ℕ → ℕ) → Passes own demand queueing ↔ Shown own demand queueing }
+    ensures { (own : Timed) (demand : ℕ → ℕ) (queueing : ℕ → ℕ → ℕ)
+        → Passes own demand queueing ↔ Shown own demand queueing }
 {}
 
 /// A law: numbers that show it imply that the frame passes.

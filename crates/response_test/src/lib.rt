@@ -1,9 +1,9 @@
 //! The written response-time test of one frame: computed exactly, and checked from given numbers without a search.
 //!
-//! The test is that of Davis, Burns, Bril and Lukkien, "Controller Area Network (CAN) schedulability analysis" (2007),
-//! with release jitter: each instance in the frame's busy period ends by its deadline, wherever lower frames block and
-//! higher ones come first. Its condition, besides a stage of `busy_period`, is the time of a nominal bit, at least 1 and
-//! at most the ticks of each frame. All times are whole ticks.
+//! The test is that of Davis, Burns, Bril and Lukkien, "Controller Area Network (CAN) schedulability analysis: Refuted,
+//! revisited and revised" (2007), with release jitter: each instance in the frame's busy period ends by its deadline,
+//! whatever lower frame blocks it and whichever higher ones come first. A call takes a stage of `busy_period` and the
+//! time of a nominal bit, which is at least 1 and at most the ticks of each frame. All times are whole ticks.
 //!
 //! No call takes memory, and each returns for every stage.
 #![tactic(auto)]
@@ -11,6 +11,8 @@
 mod given;
 mod laws;
 mod queue;
+#[cfg(test)]
+mod tests;
 mod written;
 
 pub use given::shown;

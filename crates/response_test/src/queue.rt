@@ -2,17 +2,12 @@ ghost use Rattle.std.specs.Prelude.{◌≡◌, ℕ, ◌+◌, ◌-◌, ◌*◌, �
 ghost use Rattle.std.specs.Option.{SomeIff};
 ghost use Rattle.busy_period.specs.Stage.{IsStage, own_of, lower_of};
 ghost use Rattle.busy_period.specs.Timed.{IsInRange};
-ghost use Rattle.busy_period.specs.Demand.{blocking_of, demand_of};
-ghost use Rattle.busy_period.specs.Least.{IsLeast};
-ghost use Rattle.busy_period.specs.Busy.{LeastBusy};
+ghost use Rattle.busy_period.specs.Demand.{blocking_of};
+ghost use Rattle.busy_period.specs.Busy.{FrameLeastBusy};
 ghost use Rattle.response_test.specs.Queueing.{IsBit, queueing_of};
-ghost use Rattle.response_test.specs.Passing.{CanStart, IsInTime};
-ghost use Rattle.response_test.specs.Frame.{FramePasses, HasInstance};
+ghost use Rattle.response_test.specs.Frame.{FrameCanStart, FrameLeastStart, FrameIsInTime, FramePasses, HasInstance};
 
-use busy_period::{Timed, blocking, least_fit, work};
-
-/// The most instances of a frame in a busy period that counts.
-const INSTANCES: u64 = 256;
+use busy_period::{MAX_INSTANCES, Timed, blocking, least_fit, work};
 
 /// What comes before an instance of the frame at `place` besides higher frames: blocking, and the frame's instances
 /// before it. `instance` is at most 256.
@@ -59,10 +54,10 @@ pub(crate) fn least_start(
     requires bit { IsBit frames.now bit }
     requires instance { instance ≤ 256 }
     requires limit { limit ≤ 2 ^ 45 }
-    ensures least { IfSome result (IsLeast (CanStart (queueing_of frames.now order.now place bit) instance)) }
+    ensures least { IfSome result (FrameLeastStart frames.now order.now place bit instance) }
     ensures within { IfSome result (λ start. start ≤ limit) }
     ensures none { IfNone result
-        ((start : ℕ) → CanStart (queueing_of frames.now order.now place bit) instance start → limit < start) }
+        ((start : ℕ) → FrameCanStart frames.now order.now place bit instance start → limit < start) }
 {
     let before = before(frames, order, place, instance);
     least_fit(frames, &order[..place], before, bit, 0, limit)
@@ -85,11 +80,11 @@ pub fn least_queue(frames: &[Timed], order: &[u32], place: usize, bit: u64, q: u
     requires stage { IsStage frames.now order.now place }
     requires bit { IsBit frames.now bit }
     requires instance { HasInstance frames.now order.now place q }
-    ensures least { IsLeast (CanStart (queueing_of frames.now order.now place bit) q) result }
-    ensures within { (busy : ℕ) → LeastBusy (own_of frames.now order.now place) (demand_of frames.now order.now place) busy
+    ensures least { FrameLeastStart frames.now order.now place bit q result }
+    ensures within { (busy : ℕ) → FrameLeastBusy frames.now order.now place busy
         → result + (own_of frames.now order.now place).ticks ≤ busy }
-    ensures in_time { FramePasses frames.now order.now place bit → IsInTime (own_of frames.now order.now place) q result }
+    ensures in_time { FramePasses frames.now order.now place bit → FrameIsInTime frames.now order.now place q result }
 {
     let own = frames[order[place] as usize];
-    least_start(frames, order, place, bit, q, INSTANCES * own.period).unwrap()
+    least_start(frames, order, place, bit, q, MAX_INSTANCES * own.period).unwrap()
 }

@@ -1,10 +1,8 @@
 ghost use Rattle.std.specs.Prelude.{ℕ, ◌≤◌, ◌<◌, ◌↔◌, IsTrue, IfSome, IfNone};
-ghost use Rattle.busy_period.specs.Stage.{IsStage, own_of};
-ghost use Rattle.busy_period.specs.Demand.{demand_of};
-ghost use Rattle.busy_period.specs.Busy.{IsShortBusy};
-ghost use Rattle.response_test.specs.Queueing.{IsBit, queueing_of};
-ghost use Rattle.response_test.specs.Passing.{InstancePasses, WorstResponse};
-ghost use Rattle.response_test.specs.Frame.{FramePasses};
+ghost use Rattle.busy_period.specs.Stage.{IsStage};
+ghost use Rattle.busy_period.specs.Busy.{FrameBusy};
+ghost use Rattle.response_test.specs.Queueing.{IsBit};
+ghost use Rattle.response_test.specs.Frame.{FrameInstancePasses, FramePasses, FrameWorstResponse};
 
 use crate::queue::{latest_start, least_queue, least_start};
 use busy_period::{Timed, least_busy};
@@ -15,8 +13,7 @@ fn instance_passes(frames: &[Timed], order: &[u32], place: usize, bit: u64, inst
     requires stage { IsStage frames.now order.now place }
     requires bit { IsBit frames.now bit }
     requires instance { instance ≤ 256 }
-    ensures { IsTrue result
-        ↔ InstancePasses (own_of frames.now order.now place) (queueing_of frames.now order.now place bit) instance }
+    ensures { IsTrue result ↔ FrameInstancePasses frames.now order.now place bit instance }
 {
     let own = frames[order[place] as usize];
     let Some(latest) = latest_start(own, instance) else {
@@ -36,7 +33,7 @@ pub fn passes(frames: &[Timed], order: &[u32], place: usize, bit: u64) -> bool
         return false;
     };
     let own = frames[order[place] as usize];
-    for instance in 0..(busy + own.jitter).div_ceil(own.period) {
+    for instance in 0..own.instances(busy) {
         if !instance_passes(frames, order, place, bit, instance) {
             return false;
         }
@@ -49,16 +46,14 @@ pub fn passes(frames: &[Timed], order: &[u32], place: usize, bit: u64) -> bool
 pub fn worst_response(frames: &[Timed], order: &[u32], place: usize, bit: u64) -> Option<u64>
     requires stage { IsStage frames.now order.now place }
     requires bit { IsBit frames.now bit }
-    ensures greatest { IfSome result
-        (WorstResponse (own_of frames.now order.now place) (demand_of frames.now order.now place)
-        (queueing_of frames.now order.now place bit)) }
-    ensures none { IfNone result
-        ((time : ℕ) → ¬ (IsShortBusy (own_of frames.now order.now place) (demand_of frames.now order.now place) time)) }
+    ensures greatest { IfSome result (FrameWorstResponse frames.now order.now place bit) }
+    ensures none { IfNone result ((time : ℕ) → ¬ (FrameBusy frames.now order.now place time)) }
 {
     let busy = least_busy(frames, order, place)?;
     let own = frames[order[place] as usize];
+    let count = own.instances(busy);
     let mut worst = 0;
-    for instance in 0..(busy + own.jitter).div_ceil(own.period) {
+    for instance in 0..count {
         let start = least_queue(frames, order, place, bit, instance);
         let response = own.jitter + start + own.ticks - instance * own.period;
         worst = response.max(worst);

@@ -1,6 +1,6 @@
 use Rattle.std.proofs.Common.{◌≡◌}
 use Rattle.input_text.specs.SignalsText.{signals_from}
-use Rattle.input_text.proofs.SignalRows.{with_front}
+use Rattle.csv_table.proofs.Loop.{with_front}
 use Rattle.input_text.proofs.signals.read_signal_rows.Given as goal
 
 -- the signals so far and those of the rows that are left are those of all rows

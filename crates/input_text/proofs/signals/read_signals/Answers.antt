@@ -1,4 +1,3 @@
-use Rattle.std.proofs.Common.{List, ℕ}
 use Rattle.input_text.proofs.SignalLaws.{read_stand, read_few}
 use Rattle.input_text.proofs.signals.read_signals.Goals as goal
 

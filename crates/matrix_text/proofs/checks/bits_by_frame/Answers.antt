@@ -1,4 +1,4 @@
-use Rattle.std.proofs.Common.{◌≡◌, ℕ, ◌<◌, ◌+◌, get_or, set, take, arith, ◌∙◌, ap, min, sym, subst}
+use Rattle.std.proofs.Common.{ℕ, get_or, set, arith, ◌∙◌, ap, min}
 use Rattle.std.proofs.lemmas.List.{get_or-replicate, length-replicate, length-set, take_all}
 use Rattle.matrix_text.specs.Placed.{bits_in_frame}
 use Rattle.matrix_text.proofs.FirstRows.{in_range_at}
@@ -15,8 +15,8 @@ pub loop-row-preserved : goal.loop-row-preserved
 loop-row-preserved c = record {
   long = length-set _ _ _ ∙ c.loop-row.invariant.long;
   bits = λ id below.
-    ap (λ n. get_or (set c.loop-row.bits_of c.row-item.result.id n) id 0) c.min.ensures
-    ∙ table_more c.args.rows.now c.loop-row.row-index c.row-item.result c.loop-row.bits_of c.loop-row-test.true c.row-item.is c.loop-row.invariant.long
+      ap (λ n. get_or (set c.loop-row.bits_of c.row-item.result.id n) id 0) c.min.ensures
+      ∙ table_more c.args.rows.now c.loop-row.row-index c.row-item.result c.loop-row.bits_of c.loop-row-test.true c.row-item.is c.loop-row.invariant.long
       (in_range_at c.args.rows.now c.loop-row.row-index c.row-item.result c.loop-row-test.true c.row-item.is c.requires).id c.loop-row.invariant.bits id below;
 }
 

@@ -1,4 +1,4 @@
-use Rattle.std.proofs.Common.{◌≡◌, ℕ, ◌+◌, ◌<◌, arith, length, ◌∙◌, ap, inl, refl, get_or, subst, sym}
+use Rattle.std.proofs.Common.{ℕ, ◌+◌, ◌<◌, arith, length, ◌∙◌, ap, inl, refl, get_or, subst, sym}
 use Rattle.std.proofs.lemmas.Bool.{false≢true}
 use Rattle.std.proofs.lemmas.List.{get_or-replicate, length-replicate, length-set}
 use Rattle.matrix_text.specs.Tables.{no_row}
@@ -13,25 +13,26 @@ loop-number-init c = record {
 }
 
 pub returns-then-not-are_of_one_frame : goal.returns-then-not-are_of_one_frame
-returns-then-not-are_of_one_frame c =
-    ( λ t. absurd (false≢true t)
-    , λ agree. absurd (disagrees c.args.rows.now c.loop-number.number c.index-rows-number.result c.loop-number-test.true c.index-rows-number.is c.loop-number.first_of c.index-rows-first_of.result
-        (in_range_at c.args.rows.now c.loop-number.number c.index-rows-number.result c.loop-number-test.true c.index-rows-number.is c.requires).id c.if-first_of-id.false c.index-rows-first_of.is
-        (λ same. false≢true (c.if-not-are_of_one_frame.ensures.1 same)) c.loop-number.invariant.first agree) )
+returns-then-not-are_of_one_frame c = (
+  λ t. absurd (false≢true t),
+  λ agree. absurd (disagrees c.args.rows.now c.loop-number.number c.index-rows-number.result c.loop-number-test.true c.index-rows-number.is c.loop-number.first_of c.index-rows-first_of.result
+      (in_range_at c.args.rows.now c.loop-number.number c.index-rows-number.result c.loop-number-test.true c.index-rows-number.is c.requires).id c.if-first_of-id.false c.index-rows-first_of.is
+      (λ same. false≢true (c.if-not-are_of_one_frame.ensures.1 same)) c.loop-number.invariant.first agree),
+)
 
 pub loop-number-preserved : goal.loop-number-preserved
 loop-number-preserved c =
     elim c.if-first_of-id.branch [
-      then-first_of-id w ↦ record {
+      | then-first_of-id w ↦ record {
         long = ap length w.first_of-is ∙ length-set _ _ _ ∙ c.loop-number.invariant.long;
         first = subst (λ t. (id : ℕ) → id < 2048 → HasFirst c.args.rows.now (c.loop-number.number + 1) id (get_or t id 0)) (sym w.first_of-is)
-          (with_first c.args.rows.now c.loop-number.number c.index-rows-number.result c.loop-number-test.true c.index-rows-number.is c.loop-number.first_of c.loop-number.invariant.long (omega arith)
+            (with_first c.args.rows.now c.loop-number.number c.index-rows-number.result c.loop-number-test.true c.index-rows-number.is c.loop-number.first_of c.loop-number.invariant.long (omega arith)
             (in_range_at c.args.rows.now c.loop-number.number c.index-rows-number.result c.loop-number-test.true c.index-rows-number.is c.requires).id w.if-first_of-id.true c.loop-number.invariant.first);
       }
-    | else-first_of-id+else-not-are_of_one_frame w ↦ record {
+      | else-first_of-id+else-not-are_of_one_frame w ↦ record {
         long = ap length w.first_of-is ∙ c.loop-number.invariant.long;
         first = subst (λ t. (id : ℕ) → id < 2048 → HasFirst c.args.rows.now (c.loop-number.number + 1) id (get_or t id 0)) (sym w.first_of-is)
-          (with_agreeing c.args.rows.now c.loop-number.number c.index-rows-number.result c.loop-number-test.true c.index-rows-number.is c.loop-number.first_of w.index-rows-first_of.result
+            (with_agreeing c.args.rows.now c.loop-number.number c.index-rows-number.result c.loop-number-test.true c.index-rows-number.is c.loop-number.first_of w.index-rows-first_of.result
             (in_range_at c.args.rows.now c.loop-number.number c.index-rows-number.result c.loop-number-test.true c.index-rows-number.is c.requires).id w.if-first_of-id.false w.index-rows-first_of.is (w.are_of_one_frame.ensures.0 w.if-not-are_of_one_frame.false) c.loop-number.invariant.first);
       }
     ]

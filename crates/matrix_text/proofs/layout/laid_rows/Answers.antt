@@ -8,7 +8,7 @@ use Rattle.pack_model.proofs.GroupingLaws.{label-lt-classes_of, classes_of-le-le
 use Rattle.pack_model.proofs.ItemLaws.{IsItemOf, items_of_signals}
 use Rattle.matrix_text.specs.LaidOut.{places_of_class, signals_at, widths_of, rows_of_class, rows_of_frame}
 use Rattle.matrix_text.proofs.LaidSteps.{length_of_classes}
-use Rattle.matrix_text.proofs.ClassSteps.{class_inside, widths_of_class, few_bits, list_of_class, rows_more}
+use Rattle.matrix_text.proofs.ClassSteps.{class_inside, widths_of_class, few_bits, list_of_class, rows_more, signals_at-class}
 use Rattle.matrix_text.proofs.layout.laid_rows.Goals as goal
 
 pub places_by_class-requires-clause-below : goal.places_by_class-requires-clause-below
@@ -73,7 +73,8 @@ loop-number-preserved c =
     ∙ ap (λ rows. flat_map (rows_of_class c.args.problem.now c.args.labels.now) (take c.loop-number.number (enumerate_from 0 c.args.order.now)) ++ rows)
       ( ap (λ network. rows_of_frame network (network.first_id + c.loop-number.number) (signals_at c.signals-signals.result.now c.as_slice-class.result.now)) c.network-network.ensures.network
       ∙ ap (λ signals. rows_of_frame c.args.problem.now.network (c.args.problem.now.network.first_id + c.loop-number.number) (signals_at signals c.as_slice-class.result.now)) c.signals-signals.ensures.signals
-      ∙ ap (λ places. rows_of_frame c.args.problem.now.network (c.args.problem.now.network.first_id + c.loop-number.number) (signals_at c.args.problem.now.signals places)) class )
+      ∙ ap (λ places. rows_of_frame c.args.problem.now.network (c.args.problem.now.network.first_id + c.loop-number.number) (signals_at c.args.problem.now.signals places)) class
+      ∙ ap (rows_of_frame c.args.problem.now.network (c.args.problem.now.network.first_id + c.loop-number.number)) (signals_at-class c.args.problem.now c.args.labels.now (get_or c.args.order.now c.loop-number.number 0)) )
     ∙ sym (rows_more c.args.problem.now c.args.labels.now c.args.order.now c.loop-number.number (omega arith))
 
 -- the loop went over the whole order

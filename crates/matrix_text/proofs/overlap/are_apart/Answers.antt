@@ -17,11 +17,12 @@ pub returns-then-not-mark : goal.returns-then-not-mark
 returns-then-not-mark c =
     let places = map (place_among c.args.label_of.now) c.args.rows.now in
     let within : c.loop-row.row-index < length (map (place_among c.args.label_of.now) c.args.rows.now) = simp length-map c.loop-row-test.true in
-    let here : place_at (map (place_among c.args.label_of.now) c.args.rows.now) c.loop-row.row-index ≡ c.place_among.result = row_place (place_among c.args.label_of.now) c.args.rows.now c.loop-row.row-index c.row-item.result c.loop-row-test.true c.row-item.is ∙ sym c.place_among.ensures in
-    ( λ t. absurd (false≢true t)
-    , λ apart. absurd (not_apart_by_mark 65536 places c.loop-row.row-index c.loop-row.marks within c.loop-row.invariant
-        (subst (λ p. MeetsMark p c.loop-row.marks) (sym here) (when_false _ _ c.if-not-mark.true c.mark.ensures))
-        (apart_in_all c.args.label_of.now c.args.rows.now c.requires.labels c.requires.inside apart)) )
+    let here : place_at (map (place_among c.args.label_of.now) c.args.rows.now) c.loop-row.row-index ≡ c.place_among.result = row_place (place_among c.args.label_of.now) c.args.rows.now c.loop-row.row-index c.row-item.result c.loop-row-test.true c.row-item.is ∙ sym c.place_among.ensures in (
+      λ t. absurd (false≢true t),
+      λ apart. absurd (not_apart_by_mark 65536 places c.loop-row.row-index c.loop-row.marks within c.loop-row.invariant
+          (subst (λ p. MeetsMark p c.loop-row.marks) (sym here) (when_false _ _ c.if-not-mark.true c.mark.ensures))
+          (apart_in_all c.args.label_of.now c.args.rows.now c.requires.labels c.requires.inside apart)),
+    )
 
 pub loop-row-preserved : goal.loop-row-preserved
 loop-row-preserved c =

@@ -1,5 +1,6 @@
-use Rattle.std.proofs.Common.{map, ap, ◌∙◌, arith}
+use Rattle.std.proofs.Common.{List, ℕ, map, ap, ◌∙◌, arith}
 use Rattle.std.proofs.lemmas.List.{take_all, length-map}
+use Rattle.std.specs.Str.{bytes_eq}
 use Rattle.pack_model.specs.Problem.{distinct}
 use Rattle.pack_model.proofs.Steps.{senders_step}
 use Rattle.pack_model.proofs.problem.numbered_senders.Goals as goal
@@ -9,4 +10,4 @@ loop-signal-preserved c = senders_step (λ s. s.sender) c.args.signals.now c.loo
 
 -- the loop went over all signals
 pub returns : goal.returns
-returns c = c.loop-signal.invariant ∙ ap distinct (take_all c.loop-signal.signal-index (map (λ s. s.sender) c.args.signals.now) (simp length-map (omega arith)))
+returns c = c.loop-signal.invariant ∙ ap (distinct {X = List ℕ} bytes_eq) (take_all c.loop-signal.signal-index (map (λ s. s.sender) c.args.signals.now) (simp length-map (omega arith)))

@@ -14,8 +14,9 @@ invariant_of-result c =
     let items : c.in_ok-items.items.items ≡ items_of c.args.signals.items = c.in_ok-items.ensures.items ∙ ap items_of c.as_slice-3.ensures.value in
     let senders : c.in_ok-senders.senders.keys ≡ senders_of c.args.signals.items = c.in_ok-senders.ensures ∙ ap senders_of c.as_slice-2.ensures.value in
     let few : length (items_of c.args.signals.items) ≤ 128 = omega (arith, ap length items) in (
-      c.in_ok-names.ensures.names.0 ∙ ap names_of c.as_slice.ensures.value, subst (λ s. IsSorted s c.in_ok-items.items.items) c.as_slice-3.ensures.value c.in_ok-items.ensures.sorted
-    , record {
+      c.in_ok-names.ensures.names.0 ∙ ap names_of c.as_slice.ensures.value,
+      subst (λ s. IsSorted s c.in_ok-items.items.items) c.as_slice-3.ensures.value c.in_ok-items.ensures.sorted,
+      record {
         network = c.requires.network;
         signals = c.requires.signals;
         free = c.requires.free;

@@ -1,0 +1,73 @@
+-- What `check` finds of four texts.
+use Rattle.std.specs.Prelude.{◌≡◌, ⊤, ℕ, ◌-◌, ◌^◌, List, Result, Ok, Err, IsOkAnd}
+use Rattle.csv_table.specs.Columns.{◌>>=◌}
+use Rattle.pack_base.specs.Outside.{Files, bytes_at}
+use Rattle.pack_model.specs.declared.network.Network.{Network}
+use Rattle.pack_model.specs.declared.signal.Signal.{Signal}
+use Rattle.pack_model.specs.Problem.{Parts, problem_of}
+use Rattle.matrix_text.specs.declared.matrix.MatrixRow.{MatrixRow}
+use Rattle.matrix_text.specs.Placed.{Placed}
+use Rattle.canpack_top.specs.declared.line.Role.{Role}
+use Rattle.canpack_top.specs.declared.line.Role.TheVariants as role
+use Rattle.canpack_top.specs.declared.ending.Stop.{Stop}
+use Rattle.canpack_top.specs.declared.ending.Stop.TheVariants as stop
+use Rattle.canpack_top.specs.declared.ending.Verdict.{Verdict}
+use Rattle.canpack_top.specs.declared.ending.Verdict.TheVariants as verdict
+use Rattle.canpack_top.specs.Command.{Names}
+use Rattle.canpack_top.specs.Text.{refused_as, within, network_in, signals_in, matrix_in, cert_in}
+
+-- NETWORK and SIGNALS have at most 16 MiB
+abbrev pub text_limit : ℕ
+text_limit = 16777216
+
+-- MATRIX and CERT have less than 2^63 bytes
+abbrev pub size_limit : ℕ
+size_limit = 2 ^ 63 - 1
+
+-- the problem of a network and signals
+abbrev pub problem_in : Network → List Signal → Result Parts Role
+problem_in network signals = refused_as role.Signals (problem_of network signals)
+
+-- the problem of the two files that are named, or the first refusal
+abbrev pub problem_at : Names → Files → Result Parts Role
+problem_at names files = do
+  text ← within text_limit role.Network (bytes_at files names.network)
+  network ← network_in text
+  text ← within text_limit role.Signals (bytes_at files names.signals)
+  signals ← signals_in text
+  problem_in network signals
+
+-- What `check` judges.
+pub record Judged : Type 0 where
+  pub problem : Parts
+  pub matrix : List MatrixRow
+
+-- what the four files that are named say, or the first refusal
+abbrev pub texts_at : Names → Files → Result Judged Role
+texts_at names files = do
+  problem ← problem_at names files
+  text ← within size_limit role.Matrix (bytes_at files names.matrix)
+  matrix ← matrix_in text
+  text ← within size_limit role.Cert (bytes_at files names.cert)
+  cert ← cert_in text
+  Ok (record { problem = problem; matrix = matrix })
+
+-- the texts stand and the matrix is placed
+abbrev pub Accepts : Names → Files → Type 0
+Accepts names files = IsOkAnd (texts_at names files) (λ judged. Placed judged.problem judged.matrix)
+
+-- the texts stand and the matrix isn't placed
+abbrev pub Rejects : Names → Files → Type 0
+Rejects names files = IsOkAnd (texts_at names files) (λ judged. ¬ Placed judged.problem judged.matrix)
+
+-- the file in this part is the first that is refused
+abbrev pub Refuses : Role → Names → Files → Type 0
+Refuses part names files = texts_at names files ≡ Err part
+
+-- what `check` answered is what the texts say, a read fault and want of memory aside
+abbrev pub IsVerdict : Result Verdict Stop → Names → Files → Type 0
+IsVerdict (Ok verdict.Placed) names files = Accepts names files
+IsVerdict (Ok verdict.RejectedMatrix) names files = Rejects names files
+IsVerdict (Err (stop.Refused part)) names files = Refuses part names files
+IsVerdict (Err stop.ReadFault) names files = ⊤
+IsVerdict (Err stop.Memory) names files = ⊤

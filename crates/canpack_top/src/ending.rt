@@ -1,0 +1,35 @@
+//! How a command ends.
+
+use crate::line::Role;
+use pack_model::Memory;
+
+/// What `check` finds of texts that stand.
+#[derive(Clone, Copy, Debug, PartialEq, Eq)]
+pub enum Verdict {
+    /// The matrix is placed.
+    Placed,
+    /// The matrix isn't placed.
+    RejectedMatrix,
+}
+
+/// Why a command stops before its verdict.
+#[derive(Clone, Copy, Debug, PartialEq, Eq)]
+pub enum Stop {
+    /// A read failed, and the folder's count of read faults rose.
+    ReadFault,
+    /// This file's text was refused.
+    Refused(Role),
+    /// Want of memory.
+    Memory,
+}
+
+impl From<Memory> for Stop {
+    ghost use Rattle.std.specs.Prelude.{◌≡◌};
+    ghost use Rattle.canpack_top.specs.declared.ending.Stop.TheVariants as stop;
+
+    ghost from_gives = { λ _ e. e ≡ stop.Memory };
+
+    fn from(_e: Memory) -> Stop {
+        Stop::Memory
+    }
+}

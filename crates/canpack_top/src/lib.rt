@@ -1,0 +1,20 @@
+//! The top call of canpack: it judges the words, reads the files that they name, and says one line.
+//!
+//! The one contract is that of [`canpack`]: each status comes only where the words, the bytes of the files or the
+//! counted faults give its cause, and what is said and left at each status.
+#![tactic(auto)]
+
+mod check;
+mod command;
+mod ending;
+mod line;
+mod problem;
+mod reading;
+mod steady;
+mod texts;
+mod top;
+mod writing;
+
+pub use command::{Command, Names, command_of};
+pub use steady::canpack_steady;
+pub use top::canpack;

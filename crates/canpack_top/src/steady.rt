@@ -1,0 +1,30 @@
+//! The top call over an outside that never fails.
+ghost use Rattle.std.specs.Prelude.{◌≡◌, ◌≢◌, ◌⊎◌, [], Some, IsNone};
+ghost use Rattle.pack_base.specs.SteadyFolder.{files_of};
+ghost use Rattle.canpack_top.specs.declared.line.Role.{Role};
+ghost use Rattle.canpack_top.specs.Answer.{Accepted, OfCommand, Refused, Rejected};
+ghost use Rattle.canpack_top.specs.Command.{command_of};
+
+use crate::top::canpack;
+use pack_base::{Gate, NullSink, SteadyFolder};
+use std::alloc::Global;
+use std::thread::Threads;
+
+/// `canpack` over files whose reads never fail and a sink that takes everything: the words and the files alone decide
+/// the status, want of memory aside.
+pub fn canpack_steady<R: Threads, G: Gate + Sync>(
+    rt: &R,
+    alloc: Global,
+    words: &[String],
+    folder: &mut SteadyFolder,
+    gate: &G,
+) -> u8
+    ensures no_fault { (result ≢ 2) × (result ≢ 3) × (result ≢ 7) }
+    ensures usage { IsNone (command_of words.now) → result ≡ 1 }
+    ensures accepts { OfCommand words.now (Accepted (files_of folder.old)) → (result ≡ 0) ⊎ (result ≡ 6) }
+    ensures rejects { OfCommand words.now (Rejected (files_of folder.old)) → (result ≡ 5) ⊎ (result ≡ 6) }
+    ensures refuses { (part : Role) → OfCommand words.now (Refused part (files_of folder.old)) → (result ≡ 4) ⊎ (result ≡ 6) }
+    ensures files { files_of folder.new ≡ files_of folder.old }
+{
+    canpack(rt, alloc, words, folder, &mut NullSink, gate)
+}

@@ -1,0 +1,90 @@
+//! The top call.
+ghost use Rattle.std.specs.Prelude.{◌≡◌, ◌≢◌, ◌⊎◌, ◌≤◌, IsSome, IsNone};
+ghost use Rattle.pack_base.specs.Counts.{Rose};
+ghost use Rattle.pack_base.specs.Outside.{SaidPart, and_said};
+ghost use Rattle.canpack_top.specs.declared.line.Role.{Role};
+ghost use Rattle.canpack_top.specs.Answer.{Accepted, IsExcused, OfCommand, ReadFaultsRose, Refused, Rejected, SaysPart};
+ghost use Rattle.canpack_top.specs.Command.{command_of};
+ghost use Rattle.canpack_top.specs.Line.{placed_line, refused_line, rejected_matrix_line, usage_line};
+ghost use Rattle.canpack_top.specs.Reads.{ReadsOnly};
+
+use crate::check::check;
+use crate::command::{Command, command_of};
+use crate::ending::{Stop, Verdict};
+use crate::line::{placed_line, rejected_matrix_line, usage_line};
+use pack_base::{Folder, Gate, Sink};
+use std::alloc::Global;
+use std::thread::Threads;
+
+/// Says a line and answers the status, or 7 where saying failed.
+fn say<O: Sink>(out: &mut O, line: &[u8], status: u8) -> u8
+    requires { status ≢ 7 }
+    ensures said { result ≡ status → O.said out.new ≡ and_said (O.said out.old) line.now }
+    ensures other { (result ≡ status) ⊎ (result ≡ 7) }
+    ensures fault { result ≡ 7 → Rose (O.faults out.old) (O.faults out.new) }
+    ensures part { result ≡ 7 → SaidPart line.now (O.said out.old) (O.said out.new) }
+    ensures later { O.faults out.old ≤ O.faults out.new }
+{
+    match out.say(line) {
+        Ok(()) => status,
+        Err(_) => 7,
+    }
+}
+
+/// Does what the words ask for, and answers the status: 0 accepted, 1 usage, 2 a read fault, 4 a refused text,
+/// 5 a rejected matrix, 6 want of memory, 7 a fault in saying the line.
+pub fn canpack<R: Threads, F: Folder, O: Sink, G: Gate + Sync>(
+    _rt: &R,
+    alloc: Global,
+    words: &[String],
+    folder: &mut F,
+    out: &mut O,
+    _gate: &G,
+) -> u8
+    // The causes of the statuses.
+    ensures usage { result ≡ 1 → IsNone (command_of words.now) }
+    ensures only_usage { IsNone (command_of words.now) → (result ≡ 1) ⊎ (result ≡ 7) }
+    ensures read_fault { result ≡ 2 → OfCommand words.now (ReadFaultsRose (F.read_faults folder.old) (F.read_faults folder.new)) }
+    ensures no_write_fault { result ≢ 3 }
+    ensures say_fault { result ≡ 7 → Rose (O.faults out.old) (O.faults out.new) }
+    ensures statuses { result ≤ 7 }
+
+    // What the files say, where they are told.
+    ensures accepted { result ≡ 0 → IsSome (F.files folder.old) → OfCommand words.now (Accepted (F.files folder.old)) }
+    ensures rejected { result ≡ 5 → IsSome (F.files folder.old) → OfCommand words.now (Rejected (F.files folder.old)) }
+    ensures refused { result ≡ 4 → (part : Role) × (IsSome (F.files folder.old) → OfCommand words.now (Refused part (F.files folder.old)))
+        × (O.said out.new ≡ and_said (O.said out.old) (refused_line part)) }
+
+    // The files decide, a fault and want of memory aside.
+    ensures accepts { IsSome (F.files folder.old) → OfCommand words.now (Accepted (F.files folder.old))
+        → (result ≡ 0) ⊎ IsExcused result }
+    ensures rejects { IsSome (F.files folder.old) → OfCommand words.now (Rejected (F.files folder.old))
+        → (result ≡ 5) ⊎ IsExcused result }
+    ensures refuses { IsSome (F.files folder.old) → (part : Role) → OfCommand words.now (Refused part (F.files folder.old))
+        → (result ≡ 4) ⊎ IsExcused result }
+
+    // The line that was said.
+    ensures usage_said { result ≡ 1 → O.said out.new ≡ and_said (O.said out.old) usage_line }
+    ensures placed_said { result ≡ 0 → O.said out.new ≡ and_said (O.said out.old) placed_line }
+    ensures rejected_said { result ≡ 5 → O.said out.new ≡ and_said (O.said out.old) rejected_matrix_line }
+    ensures part_said { result ≡ 7 → SaysPart (F.files folder.old) words.now (O.said out.old) (O.said out.new) }
+    ensures nothing_said { (result ≡ 2) ⊎ (result ≡ 6) → O.said out.new ≡ O.said out.old }
+
+    // The folder is only read.
+    ensures only_read { ReadsOnly F.files F.read_faults F.write_faults F.given folder.old folder.new }
+    ensures later { O.faults out.old ≤ O.faults out.new }
+{
+    let Some(command) = command_of(words) else {
+        return say(out, usage_line(), 1);
+    };
+    let ending = match command {
+        Command::Check(names) => check(alloc, folder, names),
+    };
+    match ending {
+        Ok(Verdict::Placed) => say(out, placed_line(), 0),
+        Ok(Verdict::RejectedMatrix) => say(out, rejected_matrix_line(), 5),
+        Err(Stop::Refused(role)) => say(out, role.refused_line(), 4),
+        Err(Stop::ReadFault) => 2,
+        Err(Stop::Memory) => 6,
+    }
+}

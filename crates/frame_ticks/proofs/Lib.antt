@@ -1,0 +1,7 @@
+pub mod BitLaws
+pub mod BoundLaws
+pub mod FrameLaws
+pub mod RelationLaws
+pub mod Sending
+pub mod StuffingLaws
+pub mod WorstLaws

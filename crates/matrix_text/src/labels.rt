@@ -1,0 +1,43 @@
+//! Whether a matrix is placed, and the grouping and the order of its frames.
+ghost use Rattle.std.specs.Prelude.{◌≡◌, ◌≤◌, length, take, IsNone, OnSome, IfSome};
+ghost use Rattle.matrix_text.specs.Frames.{frames_of, grouping_of, order_of};
+ghost use Rattle.matrix_text.specs.OnePlace.{OnePlace};
+ghost use Rattle.matrix_text.specs.Placed.{Placed};
+
+use crate::checks::{are_plain, fill_frames, frames_agree};
+use crate::frames::{number_frames, put_in_order};
+use crate::matrix::Matrix;
+use crate::overlap::are_apart;
+use crate::signal_rows::find_rows;
+use pack_model::Problem;
+
+/// The grouping of a placed matrix: its number of frames, each item's label in `labels`, and the
+/// frames' labels by ascending identifier at the front of `order`. None exactly where the matrix is
+/// not placed; then both slices may hold any numbers. It takes no memory.
+pub fn labels_of(
+    problem: &Problem,
+    matrix: &Matrix,
+    labels: &mut [u32],
+    order: &mut [u32],
+) -> Option<u32>
+    requires labels { length labels.old ≡ length problem.now.items }
+    requires order { length order.old ≡ length problem.now.items }
+
+    ensures not_placed { IsNone result → ¬ Placed problem.now matrix.now }
+    ensures placed { OnSome result (Placed problem.now matrix.now) }
+    ensures one_place { OnSome result (OnePlace problem.now matrix.now) }
+    ensures frames { IfSome result (λ frames. frames ≡ length (frames_of problem.now matrix.now)) }
+    ensures labels { OnSome result (labels.new ≡ grouping_of problem.now matrix.now) }
+    ensures order { IfSome result (λ frames. take frames order.new ≡ order_of problem.now matrix.now) }
+{
+    let rows = matrix.rows();
+    let row_of = find_rows(problem, rows)?;
+    if !frames_agree(rows) || !are_plain(rows) || !fill_frames(problem.network(), rows) {
+        return None;
+    }
+    let label_of = number_frames(problem, rows, &row_of, labels);
+    if !are_apart(rows, &label_of) {
+        return None;
+    }
+    Some(put_in_order(&label_of, order) as u32)
+}
