@@ -1,6 +1,7 @@
 //! The communication matrix of a grouping.
 ghost use Rattle.std.specs.Prelude.{◌≡◌, IfOk};
 ghost use Rattle.pack_model.specs.Grouping.{IsLegal, IsOrder};
+ghost use Rattle.pack_model.specs.Problem.{IsProblem, IsSorted};
 ghost use Rattle.matrix_text.specs.LaidOut.{rows_of};
 
 use crate::classes::places_by_class;
@@ -35,7 +36,9 @@ fn laid_rows(
 ) -> Result<Vec<MatrixRow>, Memory>
     requires legal { IsLegal problem.now labels.now }
     requires order { IsOrder labels.now order.now }
-    ensures { IfOk result (λ rows. rows.items ≡ rows_of problem.now labels.now order.now) }
+    ensures rows { IfOk result (λ rows. rows.items ≡ rows_of problem.now labels.now order.now) }
+    ensures problem { IsProblem problem.now }
+    ensures sorted { IsSorted problem.now.signals problem.now.items }
 {
     let network = problem.network();
     let signals = problem.signals();

@@ -78,5 +78,5 @@ loop-number-preserved c =
     ∙ sym (rows_more c.args.problem.now c.args.labels.now c.args.order.now c.loop-number.number (omega arith))
 
 -- the loop went over the whole order
-pub returns : goal.returns
-returns c = c.loop-number.invariant ∙ ap (flat_map (rows_of_class c.args.problem.now c.args.labels.now)) (take_all c.loop-number.number (enumerate_from 0 c.args.order.now) (simp length-enumerate_from (omega arith)))
+pub returns-clause-rows : goal.returns-clause-rows
+returns-clause-rows c = c.loop-number.invariant ∙ ap (flat_map (rows_of_class c.args.problem.now c.args.labels.now)) (take_all c.loop-number.number (enumerate_from 0 c.args.order.now) (simp length-enumerate_from (omega arith)))
