@@ -1,12 +1,17 @@
 pub mod ApartLaws
 pub mod Bits
+pub mod ClassSteps
 pub mod Counts
 pub mod FirstRows
+pub mod FrameSteps
 pub mod FramesFound
 pub mod InOrder
 pub mod InUse
+pub mod LaidRows
+pub mod LaidSteps
 pub mod Numbering
 pub mod OnePlaceLaws
 pub mod PlacedLaws
 pub mod RowsFound
+pub mod SumLaws
 pub mod TextLaws

@@ -1,0 +1,7 @@
+use Rattle.std.proofs.Common.{All, sym, subst}
+use Rattle.matrix_text.specs.Row.{RowInRange}
+use Rattle.matrix_text.proofs.LaidRows.{laid_in_range}
+use Rattle.matrix_text.proofs.layout.matrix_of.Goals as goal
+
+pub of-requires : goal.of-requires
+of-requires c = subst (All RowInRange) (sym c.in_ok-rows.ensures.rows) (laid_in_range c.args.problem.now c.args.labels.now c.args.order.now c.laid_rows.ensures.problem c.laid_rows.ensures.sorted c.requires.legal c.requires.order)
