@@ -46,7 +46,7 @@ sum_over_signals w v signals (item ∷ items) all same =
     ∙ ap (λ n. v item + n) (sum_over_signals w v signals items (All-tail (IsItemOf signals) item items all) same)
     ∙ sym (sum_by-cons v item items)
 
-sum-map : {X : Type 0} (f : X → ℕ) (xs : List X) → sum (map f xs) ≡ sum_by f xs
+pub sum-map : {X : Type 0} (f : X → ℕ) (xs : List X) → sum (map f xs) ≡ sum_by f xs
 sum-map f [] = refl
 sum-map f (x ∷ xs) = sum_by-cons (λ y. y) (f x) (map f xs) ∙ ap (λ n. f x + n) (sum-map f xs) ∙ sym (sum_by-cons f x xs)
 

@@ -7,6 +7,7 @@ pub mod FrameSteps
 pub mod FramesFound
 pub mod InOrder
 pub mod InUse
+pub mod LaidPlaced
 pub mod LaidRows
 pub mod LaidSteps
 pub mod Numbering

@@ -3,6 +3,7 @@ ghost use Rattle.std.specs.Prelude.{◌≡◌, IfOk};
 ghost use Rattle.pack_model.specs.Grouping.{IsLegal, IsOrder};
 ghost use Rattle.pack_model.specs.Problem.{IsProblem, IsSorted};
 ghost use Rattle.matrix_text.specs.LaidOut.{rows_of};
+ghost use Rattle.matrix_text.specs.Placed.{Placed};
 
 use crate::classes::places_by_class;
 use crate::frame_rows::add_frame;
@@ -22,6 +23,7 @@ pub fn matrix_of(
     requires legal { IsLegal problem.now labels.now }
     requires order { IsOrder labels.now order.now }
     ensures rows { IfOk result (λ matrix. matrix ≡ rows_of problem.now labels.now order.now) }
+    ensures placed { IfOk result (λ matrix. Placed problem.now matrix) }
 {
     let rows = laid_rows(alloc, problem, labels, order)?;
     Ok(Matrix::of(rows))
