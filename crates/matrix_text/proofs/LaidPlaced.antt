@@ -1,11 +1,11 @@
 -- A matrix that was laid out is placed.
-use Rattle.std.proofs.Common.{◌≡◌, ℕ, ◌+◌, ◌*◌, ◌<◌, ◌≤◌, ◌⊎◌, Bool, true, false, cond, List, [], ◌∷◌, length, map, get_or, sum, sum_by, count_by, nat_eq, All, AllPairs, Any, None, is_some, inl, inr, refl, sym, ap, subst, ◌∙◌, arith, suc, zero, filter, eq-eqb, add-zero, zero-add}
-use Rattle.std.specs.List.{enumerate_from, flat_map, position_or_len, slice_get, list_any}
+use Rattle.std.proofs.Common.{◌≡◌, ℕ, ◌+◌, ◌<◌, ◌≤◌, ◌⊎◌, Bool, true, false, cond, List, [], ◌∷◌, length, get_or, sum, sum_by, count_by, nat_eq, All, AllPairs, Any, inl, inr, refl, sym, ap, subst, ◌∙◌, arith, suc, zero, eq-eqb, add-zero, zero-add}
+use Rattle.std.specs.List.{enumerate_from, flat_map, position_or_len}
 use Rattle.std.specs.Str.{bytes_eq}
 use Rattle.std.specs.Cmp.Lexicographic.{nat_list_eq_equiv}
 use Rattle.std.proofs.lemmas.Slice.Eq.{bytes_eq-Decides}
 use Rattle.std.proofs.lemmas.Grind.{div_ceil_times}
-use Rattle.std.proofs.lemmas.Bool.{cases_eq, ne_eqb, cases_lt}
+use Rattle.std.proofs.lemmas.Bool.{ne_eqb}
 use Rattle.std.proofs.lemmas.List.{get_or-map, get_or_default, length-map}
 use Rattle.std.proofs.lemmas.List.Elements.{All-map, All-nil, All-cons, All-append}
 use Rattle.std.proofs.lemmas.List.FromFn.{length-enumerate_from, get_or-enumerate_from}
@@ -16,15 +16,15 @@ use Rattle.pack_model.specs.declared.item.Item.{Item}
 use Rattle.pack_model.specs.Problem.{Parts, IsProblem, IsSorted, senders_of, items_in_order, free_item}
 use Rattle.pack_model.specs.Grouping.{IsLegal, IsOrder, class_of}
 use Rattle.pack_model.specs.ClassTimes.{signals_of_class}
-use Rattle.pack_model.proofs.Laws.{tests, names_differ, element}
+use Rattle.pack_model.proofs.Laws.{element}
 use Rattle.pack_model.proofs.Steps.{first_place, sender_there}
 use Rattle.pack_model.proofs.GroupingLaws.{sum_by-classes, labels_once, All-class_of}
 use Rattle.pack_model.proofs.ItemLaws.{IsItemOf, items_of_signals}
-use Rattle.ipdu_layout.specs.Layout.{IsApart, bytes_of, start_of}
+use Rattle.ipdu_layout.specs.Layout.{IsApart, bytes_of}
 use Rattle.ipdu_layout.proofs.Places.{IsApart-from_order}
 use Rattle.ipdu_layout.proofs.StartLaws.{start_of-after}
 use Rattle.matrix_text.specs.declared.matrix.MatrixRow.{MatrixRow}
-use Rattle.matrix_text.specs.Placed.{Placed, OneRow, RowOf, SameFrame, OneKind, FrameFits, InsidePart, is_named, bits_in_frame, bytes_in_frame, place_of}
+use Rattle.matrix_text.specs.Placed.{Placed, OneRow, RowOf, SameFrame, FrameFits, InsidePart, is_named, bits_in_frame, place_of}
 use Rattle.matrix_text.specs.LaidOut.{widths_of, size_of_frame, row_in_frame, rows_of_frame, rows_of_class, rows_of, signals_at}
 use Rattle.fd_length.specs.Size.{fd_size_of}
 use Rattle.frame_ticks.specs.Worst.{worst_ticks_of}
@@ -34,7 +34,7 @@ use Rattle.matrix_text.proofs.Counts.{count_only}
 use Rattle.matrix_text.proofs.SumLaws.{sum_by-map, sum_by-flat_map, sum_by-enumerate, sum_by-where, sum_by-same, All-flat_map, All-enumerate, AllPairs-append}
 use Rattle.matrix_text.proofs.FrameSteps.{signals_at-cons}
 use Rattle.matrix_text.proofs.ClassSteps.{sum-map}
-use Rattle.matrix_text.proofs.LaidRows.{IsLaid, all_laid, row_ends, class_sized, laid_free, All-class}
+use Rattle.matrix_text.proofs.LaidRows.{IsLaid, all_laid, row_ends, class_sized, All-class}
 
 -- nothing is added at a place before all of a numbered list
 sum_before : (a : ℕ) (w : ℕ → ℕ) (n : ℕ) (order : List ℕ) (m : ℕ) → m < n → sum_by (λ (e : ℕ × ℕ). cond (nat_eq (a + e.0) (a + m)) (w e.1) 0) (enumerate_from n order) ≡ 0
@@ -73,7 +73,7 @@ bits_at problem labels order place lt =
     sum_by-where (λ (r : MatrixRow). r.bits) (λ r. nat_eq r.id (problem.network.first_id + place)) (rows_of problem labels order)
     ∙ sum_by-flat_map (λ (r : MatrixRow). cond (nat_eq r.id (problem.network.first_id + place)) r.bits 0) (rows_of_class problem labels) (enumerate_from 0 order)
     ∙ sum_by-same (λ e. sum_by (λ (r : MatrixRow). cond (nat_eq r.id (problem.network.first_id + place)) r.bits 0) (rows_of_class problem labels e)) (λ e. cond (nat_eq (problem.network.first_id + e.0) (problem.network.first_id + (0 + place))) (sum (widths_of (signals_of_class problem labels e.1))) 0) (enumerate_from 0 order)
-      (λ k d lt. one_class (get_or (enumerate_from 0 order) k d))
+    (λ k d lt. one_class (get_or (enumerate_from 0 order) k d))
     ∙ sum_at problem.network.first_id (λ label. sum (widths_of (signals_of_class problem labels label))) 0 order place lt
   where
     chosen : (b : Bool) (f : Signal → ℕ) (signals : List Signal) → sum_by (λ s. cond b (f s) 0) signals ≡ cond b (sum_by f signals) 0
@@ -139,17 +139,17 @@ later_ids : (problem : Parts) (labels : List ℕ) (n : ℕ) (order : List ℕ) �
 later_ids problem labels n [] = All-nil (λ (row : MatrixRow). problem.network.first_id + n ≤ row.id)
 later_ids problem labels n (label ∷ order) =
     All-append (λ (row : MatrixRow). problem.network.first_id + n ≤ row.id) (rows_of_class problem labels (n, label)) (flat_map (rows_of_class problem labels) (enumerate_from (n + 1) order))
-      (λ k d lt. omega (arith, frame_ids problem (problem.network.first_id + n) (signals_of_class problem labels label) k d lt))
-      (λ k d lt. omega (arith, later_ids problem labels (n + 1) order k d lt))
+    (λ k d lt. omega (arith, frame_ids problem (problem.network.first_id + n) (signals_of_class problem labels label) k d lt))
+    (λ k d lt. omega (arith, later_ids problem labels (n + 1) order k d lt))
 
 -- all rows stand in order
 rows_in_order : (problem : Parts) (labels : List ℕ) (n : ℕ) (order : List ℕ) → AllPairs IsBefore (flat_map (rows_of_class problem labels) (enumerate_from n order))
 rows_in_order problem labels n [] = λ i j d before lt. absurd (omega arith)
 rows_in_order problem labels n (label ∷ order) =
     AllPairs-append IsBefore (rows_of_class problem labels (n, label)) (flat_map (rows_of_class problem labels) (enumerate_from (n + 1) order))
-      (frame_in_order problem (problem.network.first_id + n) (signals_of_class problem labels label))
-      (rows_in_order problem labels (n + 1) order)
-      (λ k d lt m e within. inl (omega (arith, frame_ids problem (problem.network.first_id + n) (signals_of_class problem labels label) k d lt, later_ids problem labels (n + 1) order m e within)))
+    (frame_in_order problem (problem.network.first_id + n) (signals_of_class problem labels label))
+    (rows_in_order problem labels (n + 1) order)
+    (λ k d lt m e within. inl (omega (arith, frame_ids problem (problem.network.first_id + n) (signals_of_class problem labels label) k d lt, later_ids problem labels (n + 1) order m e within)))
 
 -- signals that stand in order are apart
 apart : (row other : MatrixRow) → IsBefore row other → row.id ≡ other.id → IsApart (place_of row) (place_of other)
@@ -160,16 +160,17 @@ module _ (problem : Parts) (labels order : List ℕ) (stands : IsProblem problem
   -- the signals of a class have one sender
   class_sender : (k : ℕ) → (name : List ℕ) × All (λ signal. signal.sender ≡ name) (signals_of_class problem labels k)
   class_sender k =
-      let (n, all) = one_number (class_of k labels problem.items) (legal.classes k).one_sender in
-      ( get_or (senders_of problem.signals) n []
-      , All-flat_map (λ signal. signal.sender ≡ get_or (senders_of problem.signals) n []) (λ item. signals_at problem.signals item.members) (class_of k labels problem.items)
-        (λ j d lt. of_item n (get_or (class_of k labels problem.items) j d) (All-class_of (IsItemOf problem.signals) k labels problem.items (items_of_signals problem.signals problem.items sorted) j d lt) (all j d lt)) )
+      let (n, all) = one_number (class_of k labels problem.items) (legal.classes k).one_sender in (
+        get_or (senders_of problem.signals) n [],
+        All-flat_map (λ signal. signal.sender ≡ get_or (senders_of problem.signals) n []) (λ item. signals_at problem.signals item.members) (class_of k labels problem.items)
+            (λ j d lt. of_item n (get_or (class_of k labels problem.items) j d) (All-class_of (IsItemOf problem.signals) k labels problem.items (items_of_signals problem.signals problem.items sorted) j d lt) (all j d lt)),
+      )
     where
       of_item : (n : ℕ) (item : Item) → IsItemOf problem.signals item → item.sender ≡ n → All (λ signal. signal.sender ≡ get_or (senders_of problem.signals) n []) (signals_at problem.signals item.members)
       of_item n item of same =
           let alone : signals_at problem.signals item.members ≡ of.signal ∷ [] = ap (λ (y : Item). signals_at problem.signals y.members) of.is ∙ signals_at-cons problem.signals of.place [] of.signal of.within of.at in
           subst (All (λ signal. signal.sender ≡ get_or (senders_of problem.signals) n [])) (sym alone)
-            (All-cons (λ signal. signal.sender ≡ get_or (senders_of problem.signals) n []) of.signal [] (sender_name problem.signals item of ∙ ap (λ m. get_or (senders_of problem.signals) m []) same) (All-nil (λ signal. signal.sender ≡ get_or (senders_of problem.signals) n [])))
+          (All-cons (λ signal. signal.sender ≡ get_or (senders_of problem.signals) n []) of.signal [] (sender_name problem.signals item of ∙ ap (λ m. get_or (senders_of problem.signals) m []) same) (All-nil (λ signal. signal.sender ≡ get_or (senders_of problem.signals) n [])))
 
   -- a row's sender is that of its class
   row_sender : (row : MatrixRow) (laid : IsLaid problem labels order row) → row.sender ≡ (class_sender (get_or order laid.place 0)).0
@@ -220,23 +221,23 @@ module _ (problem : Parts) (labels order : List ℕ) (stands : IsProblem problem
       counted_rows (get_or problem.signals k d).name
       ∙ ap (λ name. count_by (λ (s : Signal). bytes_eq name s.name) problem.signals) (sym (name_is problem.signals k d lt))
       ∙ count_only (λ (s : Signal). bytes_eq (name_at problem.signals k) s.name) problem.signals k lt
-        (λ e. ap (bytes_eq (name_at problem.signals k)) (sym (name_is problem.signals k e lt)) ∙ nat_list_eq_equiv.refl (name_at problem.signals k))
-        (λ j e below differ. ap (bytes_eq (name_at problem.signals k)) (sym (name_is problem.signals j e below)) ∙ elsewhere problem stands (name_at problem.signals j) j k below lt (λ same. differ (sym same)) (nat_list_eq_equiv.refl (name_at problem.signals j)))
+      (λ e. ap (bytes_eq (name_at problem.signals k)) (sym (name_is problem.signals k e lt)) ∙ nat_list_eq_equiv.refl (name_at problem.signals k))
+      (λ j e below differ. ap (bytes_eq (name_at problem.signals k)) (sym (name_is problem.signals j e below)) ∙ elsewhere problem stands (name_at problem.signals j) j k below lt (λ same. differ (sym same)) (nat_list_eq_equiv.refl (name_at problem.signals j)))
     where
       counted_rows : (name : List ℕ) → count_by (is_named name) (rows_of problem labels order) ≡ count_by (λ (s : Signal). bytes_eq name s.name) problem.signals
       counted_rows name =
           sum_by-flat_map (λ (r : MatrixRow). cond (bytes_eq name r.signal) 1 0) (rows_of_class problem labels) (enumerate_from 0 order)
           ∙ sum_by-same (λ e. sum_by (λ (r : MatrixRow). cond (bytes_eq name r.signal) 1 0) (rows_of_class problem labels e)) (λ e. sum_by (λ (s : Signal). cond (bytes_eq name s.name) 1 0) (signals_of_class problem labels e.1)) (enumerate_from 0 order)
-            (λ k d lt. one_frame (get_or (enumerate_from 0 order) k d))
+          (λ k d lt. one_frame (get_or (enumerate_from 0 order) k d))
           ∙ sum_by-enumerate (λ label. sum_by (λ (s : Signal). cond (bytes_eq name s.name) 1 0) (signals_of_class problem labels label)) 0 order
           ∙ sum_by-same (λ label. sum_by (λ (s : Signal). cond (bytes_eq name s.name) 1 0) (signals_of_class problem labels label)) (λ label. sum_by (λ (item : Item). sum_by (λ (s : Signal). cond (bytes_eq name s.name) 1 0) (signals_at problem.signals item.members)) (class_of label labels problem.items)) order
-            (λ k d lt. sum_by-flat_map (λ (s : Signal). cond (bytes_eq name s.name) 1 0) (λ (item : Item). signals_at problem.signals item.members) (class_of (get_or order k d) labels problem.items))
+          (λ k d lt. sum_by-flat_map (λ (s : Signal). cond (bytes_eq name s.name) 1 0) (λ (item : Item). signals_at problem.signals item.members) (class_of (get_or order k d) labels problem.items))
           ∙ sum_by-classes (λ (item : Item). sum_by (λ (s : Signal). cond (bytes_eq name s.name) 1 0) (signals_at problem.signals item.members)) order labels problem.items legal.grouping.each (labels_once labels order named)
           ∙ sum_by-IsPermutation (λ (item : Item). sum_by (λ (s : Signal). cond (bytes_eq name s.name) 1 0) (signals_at problem.signals item.members)) (items_in_order problem.signals) problem.items sorted
           ∙ sum_by-map (λ (item : Item). sum_by (λ (s : Signal). cond (bytes_eq name s.name) 1 0) (signals_at problem.signals item.members)) (free_item (senders_of problem.signals)) (enumerate_from 0 problem.signals)
           ∙ sum_by-same (λ e. sum_by (λ (s : Signal). cond (bytes_eq name s.name) 1 0) (signals_at problem.signals (e.0 ∷ []))) (λ e. cond (bytes_eq name e.1.name) 1 0) (enumerate_from 0 problem.signals)
-            (All-enumerate (λ e. sum_by (λ (s : Signal). cond (bytes_eq name s.name) 1 0) (signals_at problem.signals (e.0 ∷ [])) ≡ cond (bytes_eq name e.1.name) 1 0) problem.signals (λ k s lt at.
-              ap (sum_by (λ (t : Signal). cond (bytes_eq name t.name) 1 0)) (signals_at-cons problem.signals k [] s lt at) ∙ sum_by-cons (λ (t : Signal). cond (bytes_eq name t.name) 1 0) s [] ∙ add-zero (cond (bytes_eq name s.name) 1 0)))
+          (All-enumerate (λ e. sum_by (λ (s : Signal). cond (bytes_eq name s.name) 1 0) (signals_at problem.signals (e.0 ∷ [])) ≡ cond (bytes_eq name e.1.name) 1 0) problem.signals (λ k s lt at.
+          ap (sum_by (λ (t : Signal). cond (bytes_eq name t.name) 1 0)) (signals_at-cons problem.signals k [] s lt at) ∙ sum_by-cons (λ (t : Signal). cond (bytes_eq name t.name) 1 0) s [] ∙ add-zero (cond (bytes_eq name s.name) 1 0)))
           ∙ sum_by-enumerate (λ (s : Signal). cond (bytes_eq name s.name) 1 0) 0 problem.signals
         where
           one_frame : (e : ℕ × ℕ) → sum_by (λ (r : MatrixRow). cond (bytes_eq name r.signal) 1 0) (rows_of_class problem labels e) ≡ sum_by (λ (s : Signal). cond (bytes_eq name s.name) 1 0) (signals_of_class problem labels e.1)

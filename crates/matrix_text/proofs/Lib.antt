@@ -11,6 +11,7 @@ pub mod LaidPlaced
 pub mod LaidRows
 pub mod LaidSteps
 pub mod Numbering
+pub mod OneEach
 pub mod OnePlaceLaws
 pub mod PlacedLaws
 pub mod RowsFound
