@@ -1,15 +1,15 @@
 -- The signals of each class, and the steps of the loop over the classes.
-use Rattle.std.proofs.Common.{◌≡◌, ℕ, ◌+◌, ◌*◌, ◌<◌, ◌≤◌, List, [], ◌∷◌, ◌++◌, length, map, take, get_or, sum, sum_by, All, Option, refl, sym, ap, subst, ◌∙◌, arith, zero-add, append-nil}
+use Rattle.std.proofs.Common.{◌≡◌, ℕ, ◌+◌, ◌<◌, ◌≤◌, List, [], ◌∷◌, ◌++◌, length, map, take, get_or, sum, sum_by, All, Option, refl, sym, ap, subst, ◌∙◌, arith, zero-add, append-nil}
 use Rattle.std.specs.List.{flat_map, filter_map, enumerate_from, range_with_len, slice_get}
 use Rattle.std.specs.Int.{div_ceil}
 use Rattle.std.proofs.lemmas.Grind.{div_ceil_times, flat_map-append}
-use Rattle.std.proofs.lemmas.List.{get_or_default, get_or-map, length-map, take_more}
+use Rattle.std.proofs.lemmas.List.{get_or-map, take_more}
 use Rattle.std.proofs.lemmas.List.Elements.{All-nil, All-cons, All-head, All-tail, All-append, filter_map-append}
 use Rattle.std.proofs.lemmas.List.FromFn.{get_or-map-range_with_len, length-enumerate_from, get_or-enumerate_from}
 use Rattle.std.proofs.lemmas.List.Sums.{sum_by-cons}
 use Rattle.pack_model.specs.declared.signal.Signal.{Signal}
 use Rattle.pack_model.specs.declared.item.Item.{Item}
-use Rattle.pack_model.specs.Problem.{Parts, senders_of, free_item}
+use Rattle.pack_model.specs.Problem.{Parts}
 use Rattle.pack_model.specs.Grouping.{class_of, bits_of_class}
 use Rattle.pack_model.specs.ClassTimes.{signals_of_class}
 use Rattle.pack_model.proofs.GroupingLaws.{All-class_of}
@@ -23,8 +23,8 @@ places_inside signals [] all = All-nil (λ p. p < length signals)
 places_inside signals (item ∷ items) all =
     let of = All-head (IsItemOf signals) item items all in
     All-append (λ p. p < length signals) item.members (flat_map (λ y. y.members) items)
-      (subst (λ (y : Item). All (λ p. p < length signals) y.members) (sym of.is) (All-cons (λ p. p < length signals) of.place [] of.within (All-nil (λ p. p < length signals))))
-      (places_inside signals items (All-tail (IsItemOf signals) item items all))
+    (subst (λ (y : Item). All (λ p. p < length signals) y.members) (sym of.is) (All-cons (λ p. p < length signals) of.place [] of.within (All-nil (λ p. p < length signals))))
+    (places_inside signals items (All-tail (IsItemOf signals) item items all))
 
 -- the places of a class are in the list
 pub class_inside : (signals : List Signal) (items : List Item) (labels : List ℕ) (k : ℕ) → All (IsItemOf signals) items → All (λ p. p < length signals) (places_of_class items labels k)
@@ -46,7 +46,7 @@ sum_over_signals w v signals (item ∷ items) all same =
     ∙ ap (λ n. v item + n) (sum_over_signals w v signals items (All-tail (IsItemOf signals) item items all) same)
     ∙ sym (sum_by-cons v item items)
 
-sum-map : {X : Type 0} (f : X → ℕ) (xs : List X) → sum (map f xs) ≡ sum_by f xs
+pub sum-map : {X : Type 0} (f : X → ℕ) (xs : List X) → sum (map f xs) ≡ sum_by f xs
 sum-map f [] = refl
 sum-map f (x ∷ xs) = sum_by-cons (λ y. y) (f x) (map f xs) ∙ ap (λ n. f x + n) (sum-map f xs) ∙ sym (sum_by-cons f x xs)
 
@@ -81,5 +81,5 @@ rows_more problem labels order number lt =
     ap (flat_map (rows_of_class problem labels)) (take_more (enumerate_from 0 order) number (0, 0) within)
     ∙ flat_map-append (rows_of_class problem labels) (take number (enumerate_from 0 order)) (get_or (enumerate_from 0 order) number (0, 0) ∷ [])
     ∙ ap (λ rows. flat_map (rows_of_class problem labels) (take number (enumerate_from 0 order)) ++ rows)
-      (append-nil (rows_of_class problem labels (get_or (enumerate_from 0 order) number (0, 0)))
-      ∙ ap (rows_of_class problem labels) (get_or-enumerate_from 0 order number (0, 0) lt ∙ (λ i. (zero-add number i, get_or order number 0))))
+    (append-nil (rows_of_class problem labels (get_or (enumerate_from 0 order) number (0, 0)))
+    ∙ ap (rows_of_class problem labels) (get_or-enumerate_from 0 order number (0, 0) lt ∙ (λ i. (zero-add number i, get_or order number 0))))

@@ -1,21 +1,18 @@
 -- The signals of one frame, and the steps of the loop that writes its rows.
-use Rattle.std.proofs.Common.{◌≡◌, ℕ, ◌+◌, ◌*◌, ◌<◌, ◌≤◌, List, [], ◌∷◌, ◌++◌, length, map, take, get_or, sum, suc, zero, All, Option, Some, None, IsSome, refl, sym, ap, subst, ◌∙◌, arith, zero-add}
-use Rattle.std.specs.List.{enumerate_from, slice_get, cons_option}
-use Rattle.std.specs.Option.{unwrap_or}
-use Rattle.std.proofs.lemmas.List.{get_or_default, length-map}
+use Rattle.std.proofs.Common.{◌≡◌, ℕ, ◌+◌, ◌<◌, ◌≤◌, List, [], ◌∷◌, ◌++◌, length, take, get_or, sum, suc, zero, All, Some, refl, sym, ap, subst, ◌∙◌, arith, zero-add}
+use Rattle.std.specs.List.{enumerate_from, cons_option}
+use Rattle.std.proofs.lemmas.List.{get_or_default}
 use Rattle.std.proofs.lemmas.List.FromFn.{length-enumerate_from, get_or-enumerate_from}
-use Rattle.std.proofs.lemmas.List.Elements.{All-cons, All-head, All-tail, All-map}
+use Rattle.std.proofs.lemmas.List.Elements.{All-head, All-tail, All-map}
 use Rattle.std.proofs.lemmas.List.Sums.{sum_by-cons}
-use Rattle.std.proofs.lemmas.Option.{slice_get_cases, slice_get-get_or}
-use Rattle.fd_length.specs.Size.{fd_size_of}
+use Rattle.std.proofs.lemmas.Option.{slice_get-get_or}
 use Rattle.frame_ticks.specs.Worst.{worst_ticks_of}
-use Rattle.ipdu_layout.specs.Layout.{bytes_of, start_of}
+use Rattle.ipdu_layout.specs.Layout.{start_of}
 use Rattle.pack_model.specs.declared.network.Network.{Network}
 use Rattle.pack_model.specs.declared.signal.Signal.{Signal}
 use Rattle.pack_model.specs.Signal.{SignalStands}
 use Rattle.pack_model.proofs.Steps.{take-map_more}
 use Rattle.pack_model.proofs.Laws.{element}
-use Rattle.matrix_text.specs.declared.matrix.MatrixRow.{MatrixRow}
 use Rattle.matrix_text.specs.LaidOut.{signals_at, widths_of, size_of_frame, row_with, row_in_frame, rows_of_frame}
 
 -- the place of a signal that is there
@@ -71,9 +68,9 @@ frame_more network id signals places inside number s size ticks start lt at is_s
     let in_pairs : number < length (enumerate_from 0 (signals_at signals places)) = simp length-enumerate_from within in
     let here : s ≡ get_or (signals_at signals places) number s = at ∙ sym (get_or-signals_at signals places inside number s lt) in
     let pair : (let e : ℕ × Signal = (number, s) in e ≡ get_or (enumerate_from 0 (signals_at signals places)) number (number, s)) =
-        sym (get_or-enumerate_from 0 (signals_at signals places) number (number, s) within ∙ (λ k. (zero-add number k, sym here k))) in
+    sym (get_or-enumerate_from 0 (signals_at signals places) number (number, s) within ∙ (λ k. (zero-add number k, sym here k))) in
     take-map_more (row_in_frame network id (signals_at signals places)) (enumerate_from 0 (signals_at signals places)) number (number, s) in_pairs pair
     ∙ ap (λ row. take number (rows_of_frame network id (signals_at signals places)) ++ row ∷ [])
-      ( ap (λ n. row_with id n (worst_ticks_of network n) (start_of (widths_of (signals_at signals places)) number) s) (sym is_size)
-      ∙ ap (λ n. row_with id size n (start_of (widths_of (signals_at signals places)) number) s) (sym is_ticks)
-      ∙ ap (λ n. row_with id size ticks n s) (sym is_start) )
+    (ap (λ n. row_with id n (worst_ticks_of network n) (start_of (widths_of (signals_at signals places)) number) s) (sym is_size)
+    ∙ ap (λ n. row_with id size n (start_of (widths_of (signals_at signals places)) number) s) (sym is_ticks)
+    ∙ ap (λ n. row_with id size ticks n s) (sym is_start))

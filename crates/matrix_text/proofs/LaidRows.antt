@@ -1,7 +1,6 @@
 -- What each row of a matrix that was laid out is.
-use Rattle.std.proofs.Common.{◌≡◌, ℕ, ◌+◌, ◌*◌, ◌<◌, ◌≤◌, List, length, get_or, sum, All, Some, None, sym, ap, subst, ◌∙◌, arith}
+use Rattle.std.proofs.Common.{◌≡◌, ℕ, ◌+◌, ◌<◌, ◌≤◌, List, length, get_or, sum, All, Some, None, sym, ap, subst, ◌∙◌, arith}
 use Rattle.std.specs.List.{enumerate_from}
-use Rattle.std.specs.Int.{div_ceil}
 use Rattle.std.specs.Option.{unwrap_or}
 use Rattle.std.proofs.lemmas.Grind.{div_ceil_times}
 use Rattle.std.proofs.lemmas.List.{get_or-map, get_or_default, length-map}
@@ -24,7 +23,7 @@ use Rattle.frame_ticks.proofs.WorstLaws.{worst_ticks_of-rises}
 use Rattle.ipdu_layout.specs.Layout.{bytes_of, start_of}
 use Rattle.matrix_text.specs.declared.matrix.MatrixRow.{MatrixRow}
 use Rattle.matrix_text.specs.Row.{RowInRange}
-use Rattle.matrix_text.specs.LaidOut.{widths_of, size_of_frame, row_in_frame, rows_of_frame, rows_of_class, rows_of, signals_at, places_of_class}
+use Rattle.matrix_text.specs.LaidOut.{widths_of, size_of_frame, row_in_frame, rows_of_class, rows_of, places_of_class}
 use Rattle.matrix_text.proofs.SumLaws.{All-flat_map, All-enumerate}
 use Rattle.matrix_text.proofs.FrameSteps.{All-signals_at}
 use Rattle.matrix_text.proofs.ClassSteps.{class_inside, widths_of_class, signals_at-class, few_bits}
@@ -44,12 +43,12 @@ pub all_laid : (problem : Parts) (labels order : List ℕ) → All (IsLaid probl
 all_laid problem labels order =
     All-flat_map (IsLaid problem labels order) (rows_of_class problem labels) (enumerate_from 0 order)
     (All-enumerate (λ e. All (IsLaid problem labels order) (rows_of_class problem labels e)) order (λ place label in_order here.
-      All-map (IsLaid problem labels order) (row_in_frame problem.network (problem.network.first_id + place) (signals_of_class problem labels label)) (enumerate_from 0 (signals_of_class problem labels label))
-        (All-enumerate (λ e. IsLaid problem labels order (row_in_frame problem.network (problem.network.first_id + place) (signals_of_class problem labels label) e)) (signals_of_class problem labels label) (λ number signal in_class at.
-          laid place label number signal in_order (here ∙ get_or_default order place label 0 in_order) in_class at))))
+    All-map (IsLaid problem labels order) (row_in_frame problem.network (problem.network.first_id + place) (signals_of_class problem labels label)) (enumerate_from 0 (signals_of_class problem labels label))
+    (All-enumerate (λ e. IsLaid problem labels order (row_in_frame problem.network (problem.network.first_id + place) (signals_of_class problem labels label) e)) (signals_of_class problem labels label) (λ number signal in_class at.
+    laid place label number signal in_order (here ∙ get_or_default order place label 0 in_order) in_class at))))
   where
     laid : (place label number : ℕ) (signal : Signal) → place < length order → label ≡ get_or order place 0 → number < length (signals_of_class problem labels label) → signal ≡ get_or (signals_of_class problem labels label) number signal
-      → IsLaid problem labels order (row_in_frame problem.network (problem.network.first_id + place) (signals_of_class problem labels label) (number, signal))
+        → IsLaid problem labels order (row_in_frame problem.network (problem.network.first_id + place) (signals_of_class problem labels label) (number, signal))
     laid place label number signal in_order here in_class at = record {
       place = place;
       number = number;
@@ -92,7 +91,7 @@ module _ (problem : Parts) (labels order : List ℕ) (stands : IsProblem problem
   row_ends row laid =
       let frame = signals_of_class problem labels (get_or order laid.place 0) in
       let width : get_or (widths_of (signals_of_class problem labels (get_or order laid.place 0))) laid.number 0 ≡ laid.signal.bits =
-          get_or-map (λ (s : Signal). s.bits) (signals_of_class problem labels (get_or order laid.place 0)) laid.number laid.signal 0 laid.in_class ∙ ap (λ (s : Signal). s.bits) (sym laid.at) in
+      get_or-map (λ (s : Signal). s.bits) (signals_of_class problem labels (get_or order laid.place 0)) laid.number laid.signal 0 laid.in_class ∙ ap (λ (s : Signal). s.bits) (sym laid.at) in
       let within : laid.number < length (widths_of (signals_of_class problem labels (get_or order laid.place 0))) = simp length-map laid.in_class in
       omega (arith, width, sum_by_more_le (λ x. x) (widths_of (signals_of_class problem labels (get_or order laid.place 0))) laid.number 0 within)
 

@@ -1,6 +1,6 @@
 -- The steps of the loops that lay a matrix out.
-use Rattle.std.proofs.Common.{◌≡◌, ℕ, ◌+◌, ◌<◌, ◌≤◌, ◌⊎◌, Bool, true, false, cond, List, [], ◌∷◌, ◌++◌, length, map, take, get_or, set, nat_eq, inl, inr, refl, sym, ap, ◌∙◌, arith, append-nil, eq-eqb}
-use Rattle.std.specs.List.{flat_map, filter_map, range_with_len, slice_get, cons_option}
+use Rattle.std.proofs.Common.{◌≡◌, ℕ, ◌+◌, ◌<◌, ◌⊎◌, Bool, true, false, cond, List, [], ◌∷◌, ◌++◌, length, map, take, get_or, set, nat_eq, inl, inr, refl, sym, ap, ◌∙◌, arith, append-nil, eq-eqb}
+use Rattle.std.specs.List.{flat_map, range_with_len, slice_get, cons_option}
 use Rattle.std.proofs.lemmas.Bool.{cases_eq, ne_eqb}
 use Rattle.std.proofs.lemmas.List.{map_push, map-set, get_or-map, length-map, length-set, ext_get_or, get_or-set_same, get_or-set_other, take_more}
 use Rattle.std.proofs.lemmas.List.Elements.{filter_map-append}
@@ -51,15 +51,15 @@ classes_more items labels classes i item places same lt at below so_far =
     let long : length places ≡ classes = ap length so_far ∙ length-map-range_with_len (places_of_class (take i items) (take i labels)) 0 classes in
     let read = λ (k : ℕ) (within : k < classes). ap (λ ps. get_or ps k []) so_far ∙ get_or-map-range_with_len (places_of_class (take i items) (take i labels)) 0 classes k k [] within (omega arith) in
     ext_get_or [] (set places label (get_or places label [] ++ item.members)) (map new (range_with_len 0 classes))
-      (length-set _ _ _ ∙ long ∙ sym (length-map-range_with_len (places_of_class (take (i + 1) items) (take (i + 1) labels)) 0 classes))
-      (λ k within.
-        let in_all : k < classes = omega (arith, within, long, length-set places label (get_or places label [] ++ item.members)) in
-        at_class k in_all long read (cases_eq k label)
-        ∙ sym (get_or-map-range_with_len (places_of_class (take (i + 1) items) (take (i + 1) labels)) 0 classes k k [] in_all (omega arith)))
+    (length-set _ _ _ ∙ long ∙ sym (length-map-range_with_len (places_of_class (take (i + 1) items) (take (i + 1) labels)) 0 classes))
+    (λ k within.
+    let in_all : k < classes = omega (arith, within, long, length-set places label (get_or places label [] ++ item.members)) in
+    at_class k in_all long read (cases_eq k label)
+    ∙ sym (get_or-map-range_with_len (places_of_class (take (i + 1) items) (take (i + 1) labels)) 0 classes k k [] in_all (omega arith)))
   where
     at_class : (k : ℕ) → k < classes → length places ≡ classes → ((m : ℕ) → m < classes → get_or places m [] ≡ places_of_class (take i items) (take i labels) m) → (k ≡ get_or labels i 0) ⊎ (k ≡ get_or labels i 0 → ⊥)
-      → get_or (set places (get_or labels i 0) (get_or places (get_or labels i 0) [] ++ item.members)) k [] ≡ places_of_class (take (i + 1) items) (take (i + 1) labels) k
-    at_class k in_all long read (inl e) = 
+        → get_or (set places (get_or labels i 0) (get_or places (get_or labels i 0) [] ++ item.members)) k [] ≡ places_of_class (take (i + 1) items) (take (i + 1) labels) k
+    at_class k in_all long read (inl e) =
         let inside : get_or labels i 0 < length places = omega arith in
         ap (λ m. get_or (set places (get_or labels i 0) (get_or places (get_or labels i 0) [] ++ item.members)) m []) e
         ∙ get_or-set_same places (get_or labels i 0) (get_or places (get_or labels i 0) [] ++ item.members) [] inside

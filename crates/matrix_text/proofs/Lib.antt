@@ -7,9 +7,11 @@ pub mod FrameSteps
 pub mod FramesFound
 pub mod InOrder
 pub mod InUse
+pub mod LaidPlaced
 pub mod LaidRows
 pub mod LaidSteps
 pub mod Numbering
+pub mod OneEach
 pub mod OnePlaceLaws
 pub mod PlacedLaws
 pub mod RowsFound

@@ -1,7 +1,7 @@
 -- Sums, and what holds of all elements, over lists that are put together.
 use Rattle.std.proofs.Common.{◌≡◌, ℕ, ◌+◌, ◌<◌, Bool, true, false, cond, List, [], ◌∷◌, ◌++◌, length, map, filter, sum_by, get_or, All, AllPairs, suc, refl, sym, ap, subst, ◌∙◌, arith, zero-add}
 use Rattle.std.specs.List.{flat_map, enumerate_from}
-use Rattle.std.proofs.lemmas.List.Elements.{All-nil, All-cons, All-head, All-tail, All-append}
+use Rattle.std.proofs.lemmas.List.Elements.{All-nil, All-head, All-tail, All-append}
 use Rattle.std.proofs.lemmas.List.{get_or_default}
 use Rattle.std.proofs.lemmas.List.FromFn.{length-enumerate_from, get_or-enumerate_from}
 use Rattle.std.proofs.lemmas.List.Kept.{AllPairs-cons}
@@ -44,8 +44,8 @@ module _ {X : Type 0} where
   AllPairs-append R [] ys first second across = second
   AllPairs-append R (x ∷ xs) ys first second across =
       AllPairs-cons R x (xs ++ ys)
-        (All-append (R x) xs ys (λ k d lt. first 0 (suc k) d (omega arith) (omega arith)) (All-head (λ x. All (R x) ys) x xs across))
-        (AllPairs-append R xs ys (λ i j d before lt. first (suc i) (suc j) d (omega arith) (omega arith)) second (All-tail (λ x. All (R x) ys) x xs across))
+      (All-append (R x) xs ys (λ k d lt. first 0 (suc k) d (omega arith) (omega arith)) (All-head (λ x. All (R x) ys) x xs across))
+      (AllPairs-append R xs ys (λ i j d before lt. first (suc i) (suc j) d (omega arith) (omega arith)) second (All-tail (λ x. All (R x) ys) x xs across))
 
   -- elements by number
   pub All-enumerate : (P : ℕ × X → Type 0) (xs : List X) → ((k : ℕ) (x : X) → k < length xs → x ≡ get_or xs k x → P (k, x)) → All P (enumerate_from 0 xs)

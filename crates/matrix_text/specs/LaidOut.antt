@@ -1,6 +1,6 @@
 -- The communication matrix of a grouping: each class becomes one frame, by the order of the classes, and its signals stand one after another as AUTOSAR COM counts bits.
-use Rattle.std.specs.Prelude.{ℕ, ◌+◌, List, map, sum, unwrap_or, slice_get}
-use Rattle.std.specs.List.{enumerate_from, filter_map, flat_map}
+use Rattle.std.specs.Prelude.{ℕ, ◌+◌, List, length, map, sum, unwrap_or, slice_get}
+use Rattle.std.specs.List.{enumerate_from, filter_map, flat_map, range_with_len}
 use Rattle.pack_model.specs.declared.network.Network.{Network}
 use Rattle.pack_model.specs.declared.signal.Signal.{Signal}
 use Rattle.pack_model.specs.declared.item.Item.{Item}
@@ -59,3 +59,7 @@ rows_of_class problem labels e = rows_of_frame problem.network (problem.network.
 -- the rows by identifier, and then by item
 abbrev pub rows_of : Parts → List ℕ → List ℕ → List MatrixRow
 rows_of problem labels order = flat_map (rows_of_class problem labels) (enumerate_from 0 order)
+
+-- the rows of one frame for each item: the item of a number has the identifier so far above the first
+abbrev pub rows_one_each : Parts → List MatrixRow
+rows_one_each problem = rows_of problem (range_with_len 0 (length problem.items)) (range_with_len 0 (length problem.items))

@@ -16,6 +16,6 @@ mod signal_rows;
 mod text;
 
 pub use labels::labels_of;
-pub use layout::matrix_of;
+pub use layout::{matrix_of, one_frame_each};
 pub use matrix::{Header, Matrix, MatrixRow};
 pub use text::{MatrixFault, read_matrix, write_matrix};

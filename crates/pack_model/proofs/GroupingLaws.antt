@@ -154,7 +154,7 @@ distinct_from_counts : (order : List ℕ) → ((label : ℕ) → count_by (λ x.
 distinct_from_counts [] few = IsDistinct-from_apart nat_eq [] (λ i j d before lt. absurd (omega arith))
 distinct_from_counts (k ∷ order) few =
     IsDistinct-cons nat_eq k order (recursion_from_All (λ y. nat_eq k y ≡ false) order (λ i d lt. apart i d lt))
-      (distinct_from_counts order (λ label. omega (arith, few label, sum_by-cons (λ x. cond (nat_eq x label) 1 0) k order)))
+    (distinct_from_counts order (λ label. omega (arith, few label, sum_by-cons (λ x. cond (nat_eq x label) 1 0) k order)))
   where
     none_left : count_by (λ x. nat_eq x k) order ≡ 0
     none_left = omega (arith, few k, sum_by-cons (λ x. cond (nat_eq x k) 1 0) k order, ap {B = ℕ} (λ b. cond b 1 0) (eq-eqb k k refl))

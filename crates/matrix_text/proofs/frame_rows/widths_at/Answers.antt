@@ -1,5 +1,4 @@
-use Rattle.std.proofs.Common.{◌≡◌, ap, ◌∙◌, sym, arith, take, ◌++◌, ◌∷◌, []}
-use Rattle.matrix_text.specs.LaidOut.{signals_at, widths_of}
+use Rattle.std.proofs.Common.{ap, ◌∙◌, sym, arith, ◌++◌, ◌∷◌, []}
 use Rattle.matrix_text.proofs.LaidSteps.{widths-more}
 use Rattle.matrix_text.proofs.frame_rows.widths_at.Goals as goal
 
