@@ -2,4 +2,3 @@ pub mod Said
 pub mod Fronts
 pub mod Planned
 pub mod ReadTwice
-pub mod Alone

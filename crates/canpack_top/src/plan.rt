@@ -1,7 +1,6 @@
 //! The planning of a matrix in which each item has a frame of its own.
 ghost use Rattle.std.specs.Prelude.{◌≡◌, ◌⊎◌, IsTrue, Err, IsErrOf, IsErr, IsSome, IsOk, IfOk, OnOk, OnErr};
 ghost use Rattle.pack_base.specs.Outside.{Later};
-ghost use Rattle.std.specs.List.{range_with_len};
 ghost use Rattle.canpack_top.specs.declared.line.Role.{Role as GivenRole};
 ghost use Rattle.canpack_top.specs.Check.{problem_at};
 ghost use Rattle.canpack_top.specs.Command.{are_names, names_of};
@@ -14,29 +13,17 @@ use crate::ending::Stop;
 use crate::problem::read_problem;
 use crate::texts::PLACED_CERT;
 use crate::writing::write_both;
-use matrix_text::{matrix_of, write_matrix};
+use matrix_text::{one_frame_each, write_matrix};
 use pack_base::Folder;
 use pack_model::{Memory, Problem};
 use std::alloc::Global;
 
-/// The numbers below a count.
-fn numbers(alloc: Global, count: u32) -> Result<Vec<u32>, Memory>
-    ensures { IfOk result (λ numbers. numbers.items ≡ range_with_len 0 count) }
-{
-    let mut numbers = Vec::new(alloc);
-    for number in 0..count {
-        numbers.push(number)?;
-    }
-    Ok(numbers)
-}
-
 /// The text of the matrix in which each item has a frame of its own.
-#[tactic(auto, unfolding(crate::specs::Plan::planned_rows, crate::specs::Plan::planned_text))]
+#[tactic(auto, unfolding(crate::specs::Plan::planned_text))]
 fn planned_text(alloc: Global, problem: &Problem) -> Result<Vec<u8>, Memory>
     ensures { IfOk result (λ text. text.items ≡ planned_text problem.now) }
 {
-    let labels = numbers(alloc, problem.items().len() as u32)?;
-    let matrix = matrix_of(alloc, problem, &labels, &labels)?;
+    let matrix = one_frame_each(alloc, problem)?;
     write_matrix(alloc, &matrix)
 }
 

@@ -4,7 +4,21 @@ ghost use Rattle.pack_base.specs.Counts.{Rose};
 ghost use Rattle.pack_base.specs.Outside.{Later, SaidPart, and_said};
 ghost use Rattle.canpack_top.specs.declared.line.Role.{Role};
 ghost use Rattle.canpack_top.specs.Answer.{
-    Accepted, Done, IsCheck, IsExcused, IsRefused, LeavesFiles, OfCommand, OnePlaceEach, PartDone, ReadFaultsRose, Refused, Rejected, SaysNothing, SaysPart, WriteFaultsRose,
+  Accepted,
+  Done,
+  IsCheck,
+  IsExcused,
+  IsRefused,
+  LeavesFiles,
+  OfCommand,
+  OnePlaceEach,
+  PartDone,
+  ReadFaultsRose,
+  Refused,
+  Rejected,
+  SaysNothing,
+  SaysPart,
+  WriteFaultsRose,
 };
 ghost use Rattle.canpack_top.specs.Command.{command_of};
 ghost use Rattle.canpack_top.specs.Line.{placed_line, refused_line, rejected_matrix_line, usage_line};
