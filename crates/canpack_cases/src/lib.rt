@@ -6,6 +6,8 @@ mod hostile;
 #[cfg(test)]
 mod matrices;
 #[cfg(test)]
+mod planned;
+#[cfg(test)]
 mod runs;
 #[cfg(test)]
 mod texts;

@@ -1,3 +1,4 @@
 pub mod Said
 pub mod Fronts
+pub mod Planned
 pub mod ReadTwice

@@ -4,5 +4,5 @@ use Rattle.std.specs.declared.alloc.Global.{Global}
 use Rattle.pack_base.specs.Outside.{Files, SaidPart}
 use Rattle.canpack_top.specs.Answer.{IsDue, SaysPart}
 
-pub says_part : (files : Files) (words : List (String Global)) (before now : Option (List ℕ)) (line due : List ℕ) → line ≡ due → IsDue files words due → SaidPart line before now → SaysPart files words before now
-says_part files words before now line due is cause part = (due, cause, rw (← is) part)
+pub says_part : (files left : Files) (words : List (String Global)) (before now : Option (List ℕ)) (line due : List ℕ) → line ≡ due → IsDue files left words due → SaidPart line before now → SaysPart files left words before now
+says_part files left words before now line due is cause part = (due, cause, rw (← is) part)

@@ -1,46 +1,122 @@
 -- What an answer of the program says of the words, the files and the line that was said.
-use Rattle.std.specs.Prelude.{◌≡◌, ◌⊎◌, ℕ, List, Option, IsNone, IsSome, IsSomeAnd, String}
+use Rattle.std.specs.Prelude.{◌≡◌, ◌⊎◌, ⊤, ℕ, List, Option, Result, Ok, Err, IsErr, IsErrOf, IsNone, IsOk, IsSome, IsSomeAnd, String}
 use Rattle.std.specs.declared.alloc.Global.{Global}
 use Rattle.pack_base.specs.Outside.{Files, SaidPart}
-use Rattle.canpack_top.specs.Check.{Accepts, HasOnePlace, Rejects, Refuses}
-use Rattle.canpack_top.specs.Command.{Command, command_of, check}
+use Rattle.canpack_top.specs.Check.{Accepts, HasOnePlace, Rejects, Refuses, problem_at, texts_at}
+use Rattle.canpack_top.specs.Command.{Command, command_of, check, plan}
 use Rattle.canpack_top.specs.Line.{placed_line, refused_line, rejected_matrix_line, usage_line}
-use Rattle.canpack_top.specs.Reads.{CheckFaults}
+use Rattle.canpack_top.specs.Plan.{IsPlanned, IsPartPlanned}
+use Rattle.canpack_top.specs.Reads.{CheckFaults, ProblemFaults}
+use Rattle.canpack_top.specs.Write.{WriteFaults}
+use Rattle.canpack_top.specs.declared.ending.Stop.{Stop}
+use Rattle.canpack_top.specs.declared.ending.Stop.TheVariants as stop
+use Rattle.canpack_top.specs.declared.ending.Verdict.{Verdict}
+use Rattle.canpack_top.specs.declared.ending.Verdict.TheVariants as verdict
 use Rattle.canpack_top.specs.declared.line.Role.{Role}
 
 -- a fact of the command of the words, which are the line of one
 abbrev pub OfCommand : List (String Global) → (Command → Type 0) → Type 0
 OfCommand words P = IsSomeAnd (command_of words) P
 
+-- the command is `check`
+abbrev pub IsCheck : Command → Type 0
+IsCheck (check names) = ⊤
+IsCheck (plan names branches) = ⊥
+
 -- the read faults of a file that the command reads rose
 abbrev pub ReadFaultsRose : (List ℕ → ℕ) → (List ℕ → ℕ) → Command → Type 0
 ReadFaultsRose before now (check names) = CheckFaults names before now
+ReadFaultsRose before now (plan names branches) = ProblemFaults names before now
 
--- the files are accepted, rejected, or refused for the one in this part
+-- the write faults of a file that the command writes rose
+abbrev pub WriteFaultsRose : (List ℕ → ℕ) → (List ℕ → ℕ) → Command → Type 0
+WriteFaultsRose before now (check names) = ⊥
+WriteFaultsRose before now (plan names branches) = WriteFaults names.matrix names.cert before now
+
+-- `check` accepts the four files, `plan` has a problem
 abbrev pub Accepted : Files → Command → Type 0
 Accepted files (check names) = Accepts names files
+Accepted files (plan names branches) = IsOk (problem_at names files)
 
--- in the accepted matrix each signal has one place of its own
+-- in the matrix that `check` accepted, each signal has one place of its own
 abbrev pub OnePlaceEach : Files → Command → Type 0
 OnePlaceEach files (check names) = HasOnePlace names files
+OnePlaceEach files (plan names branches) = ⊤
 
+-- `check` finds that the texts stand and the matrix isn't placed
 abbrev pub Rejected : Files → Command → Type 0
 Rejected files (check names) = Rejects names files
+Rejected files (plan names branches) = ⊥
 
+-- the file in this part is the first that is refused
 abbrev pub Refused : Role → Files → Command → Type 0
 Refused part files (check names) = Refuses part names files
+Refused part files (plan names branches) = problem_at names files ≡ Err part
 
--- the line that is due for these words and files, whose meanings count where they are told
-pub data IsDue (files : Files) (words : List (String Global)) : List ℕ → Type 0 where
-  usage : IsNone (command_of words) → IsDue files words usage_line
-  placed : (IsSome files → OfCommand words (Accepted files)) → IsDue files words placed_line
-  rejected : (IsSome files → OfCommand words (Rejected files)) → IsDue files words rejected_matrix_line
-  refused : (part : Role) → (IsSome files → OfCommand words (Refused part files)) → IsDue files words (refused_line part)
+-- a text of the command's is refused
+abbrev pub IsRefused : Files → Command → Type 0
+IsRefused files (check names) = IsErr (texts_at names files)
+IsRefused files (plan names branches) = IsErr (problem_at names files)
+
+-- the files after `placed`: `check` leaves them as they were, `plan` has written its two
+abbrev pub Done : Files → Files → Command → Type 0
+Done before now (check names) = now ≡ before
+Done before now (plan names branches) = IsPlanned names before now
+
+-- the files after a write fault, which only `plan` has
+abbrev pub PartDone : Files → Files → Command → Type 0
+PartDone before now (check names) = ⊥
+PartDone before now (plan names branches) = IsPartPlanned names before now
+
+-- the line that is due for these words and files, with the files after it; what the files say counts where they are told
+pub data IsDue (before now : Files) (words : List (String Global)) : List ℕ → Type 0 where
+  usage : IsNone (command_of words) → now ≡ before → IsDue before now words usage_line
+  placed : (IsSome before → OfCommand words (Accepted before)) → (IsSome before → OfCommand words (Done before now)) → IsDue before now words placed_line
+  rejected : (IsSome before → OfCommand words (Rejected before)) → now ≡ before → IsDue before now words rejected_matrix_line
+  refused : (part : Role) → (IsSome before → OfCommand words (Refused part before)) → now ≡ before → IsDue before now words (refused_line part)
 
 -- a front of the line that is due was said
-abbrev pub SaysPart : Files → List (String Global) → Option (List ℕ) → Option (List ℕ) → Type 0
-SaysPart files words before now = (due : List ℕ) × IsDue files words due × SaidPart due before now
+abbrev pub SaysPart : Files → Files → List (String Global) → Option (List ℕ) → Option (List ℕ) → Type 0
+SaysPart before now words said_before said_now = (due : List ℕ) × IsDue before now words due × SaidPart due said_before said_now
 
 -- a fault or want of memory, in the place of what the files say
 abbrev pub IsExcused : ℕ → Type 0
-IsExcused status = (status ≡ 2) ⊎ (status ≡ 6) ⊎ (status ≡ 7)
+IsExcused status = (status ≡ 2) ⊎ (status ≡ 3) ⊎ (status ≡ 6) ⊎ (status ≡ 7)
+
+-- the statuses at which no told file changed: usage, a read fault, a refusal, a rejection, want of memory
+abbrev pub LeavesFiles : ℕ → Type 0
+LeavesFiles status = (status ≡ 1) ⊎ (status ≡ 2) ⊎ (status ≡ 4) ⊎ (status ≡ 5) ⊎ (status ≡ 6)
+
+-- the statuses at which nothing was said: a read fault, a write fault, want of memory
+abbrev pub SaysNothing : ℕ → Type 0
+SaysNothing status = (status ≡ 2) ⊎ (status ≡ 3) ⊎ (status ≡ 6)
+
+-- what a command answered is what the files say, a fault and want of memory aside
+abbrev pub IsAnswer : Result Verdict Stop → Files → Command → Type 0
+IsAnswer (Ok verdict.Placed) files command = Accepted files command
+IsAnswer (Ok verdict.RejectedMatrix) files command = Rejected files command
+IsAnswer (Err (stop.Refused part)) files command = Refused part files command
+IsAnswer (Err stop.ReadFault) files command = ⊤
+IsAnswer (Err stop.WriteFault) files command = ⊤
+IsAnswer (Err stop.Memory) files command = ⊤
+
+-- a text was refused
+abbrev pub IsRefusal : Result Verdict Stop → Type 0
+IsRefusal (Ok found) = ⊥
+IsRefusal (Err (stop.Refused part)) = ⊤
+IsRefusal (Err stop.ReadFault) = ⊥
+IsRefusal (Err stop.WriteFault) = ⊥
+IsRefusal (Err stop.Memory) = ⊥
+
+-- a fault or want of memory stopped the command
+abbrev pub IsStopped : Result Verdict Stop → Type 0
+IsStopped result = IsErrOf result stop.ReadFault ⊎ IsErrOf result stop.WriteFault ⊎ IsErrOf result stop.Memory
+
+-- the files after a command: only after `placed` and after a write fault may they have changed
+abbrev pub Leaves : Result Verdict Stop → Files → Files → Command → Type 0
+Leaves (Ok verdict.Placed) before now command = IsSome before → Done before now command
+Leaves (Ok verdict.RejectedMatrix) before now command = now ≡ before
+Leaves (Err (stop.Refused part)) before now command = now ≡ before
+Leaves (Err stop.ReadFault) before now command = now ≡ before
+Leaves (Err stop.WriteFault) before now command = IsSome before → PartDone before now command
+Leaves (Err stop.Memory) before now command = now ≡ before

@@ -87,4 +87,5 @@ IsVerdict (Ok verdict.Placed) names files = Accepts names files
 IsVerdict (Ok verdict.RejectedMatrix) names files = Rejects names files
 IsVerdict (Err (stop.Refused part)) names files = Refuses part names files
 IsVerdict (Err stop.ReadFault) names files = ⊤
+IsVerdict (Err stop.WriteFault) names files = ⊥
 IsVerdict (Err stop.Memory) names files = ⊤

@@ -1,8 +1,9 @@
 -- The words of a command.
-use Rattle.std.specs.Prelude.{◌&&◌, ◌==◌, ℕ, Bool, List, [], length, map, not, codes, Option, None, Some, if◌then◌else◌, slice_index_or, String}
+use Rattle.std.specs.Prelude.{◌&&◌, ◌==◌, ℕ, Bool, List, [], length, map, not, codes, Option, None, Some, if◌then◌else◌, option_map, slice_index_or, IsTrue, String}
 use Rattle.std.specs.String.{string_bytes}
 use Rattle.std.specs.declared.alloc.Global.{Global}
 use Rattle.std.specs.Str.{bytes_eq}
+use Rattle.csv_table.specs.Decimal.{decimal_of}
 use Rattle.canpack_top.specs.declared.command.Names.{Names as GivenNames}
 use Rattle.canpack_top.specs.declared.command.Command.{Command as GivenCommand}
 use Rattle.canpack_top.specs.declared.command.Command.TheVariants as given
@@ -17,10 +18,7 @@ pub record Names : Type 0 where
 -- What the words ask for. `plan` has its number of branches.
 pub data Command : Type 0 where
   check : Names → Command
-
--- a word, by its place from 0
-abbrev pub word : List (String Global) → ℕ → List ℕ
-word words place = slice_index_or (map string_bytes words) place []
+  plan : Names → ℕ → Command
 
 -- no name is empty, and no two are equal
 abbrev pub are_names : Names → Bool
@@ -29,16 +27,36 @@ are_names n =
     && not (bytes_eq n.network n.signals) && not (bytes_eq n.network n.matrix) && not (bytes_eq n.network n.cert)
     && not (bytes_eq n.signals n.matrix) && not (bytes_eq n.signals n.cert) && not (bytes_eq n.matrix n.cert)
 
+-- the four words of the command are names
+abbrev pub AreNames : Command → Type 0
+AreNames (check names) = IsTrue (are_names names)
+AreNames (plan names branches) = IsTrue (are_names names)
+
+-- a word, by its place from 0
+abbrev pub word : List (String Global) → ℕ → List ℕ
+word words place = slice_index_or (map string_bytes words) place []
+
 -- the names in the second to the fifth word
 abbrev pub names_in : List (String Global) → Names
 names_in words = record { network = word words 1; signals = word words 2; matrix = word words 3; cert = word words 4 }
 
--- the command of the words, where they are the line of one
-abbrev pub command_of : List (String Global) → Option Command
-command_of words =
-    if (length words == 6) && bytes_eq (word words 0) (codes "check") && are_names (names_in words) && bytes_eq (word words 5) (codes "1")
+-- the command of six words: `check` with its four files, and one worker
+abbrev pub check_of : List (String Global) → Option Command
+check_of words =
+    if bytes_eq (word words 0) (codes "check") && are_names (names_in words) && bytes_eq (word words 5) (codes "1")
     then Some (check (names_in words))
     else None
+
+-- the command of seven words: `plan` with its four files, 1 to 1000000 branches, and one worker
+abbrev pub plan_of : List (String Global) → Option Command
+plan_of words =
+    if bytes_eq (word words 0) (codes "plan") && are_names (names_in words) && bytes_eq (word words 6) (codes "1")
+    then option_map (plan (names_in words)) (decimal_of 1 1000000 (word words 5))
+    else None
+
+-- the command of the words, where they are the line of one
+abbrev pub command_of : List (String Global) → Option Command
+command_of words = if length words == 6 then check_of words else if length words == 7 then plan_of words else None
 
 -- the names that the code holds
 abbrev pub names_of : GivenNames → Names
@@ -47,3 +65,4 @@ names_of n = record { network = n.network.now; signals = n.signals.now; matrix =
 -- the command that the code holds
 abbrev pub seen : GivenCommand → Command
 seen (given.Check names) = check (names_of names)
+seen (given.Plan names branches) = plan (names_of names) branches

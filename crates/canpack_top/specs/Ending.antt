@@ -10,6 +10,7 @@ abbrev pub Gives : {X Y : Type 0} → (X → Y) → Result X Stop → Result Y R
 Gives view (Ok x) text = text ≡ Ok (view x)
 Gives view (Err (stop.Refused role)) text = text ≡ Err role
 Gives view (Err stop.ReadFault) text = ⊤
+Gives view (Err stop.WriteFault) text = ⊥
 Gives view (Err stop.Memory) text = ⊤
 
 -- the same of bytes in memory, of which no read fault comes
@@ -17,4 +18,5 @@ abbrev pub Says : {X Y : Type 0} → (X → Y) → Result X Stop → Result Y Ro
 Says view (Ok x) text = text ≡ Ok (view x)
 Says view (Err (stop.Refused role)) text = text ≡ Err role
 Says view (Err stop.ReadFault) text = ⊥
+Says view (Err stop.WriteFault) text = ⊥
 Says view (Err stop.Memory) text = ⊤

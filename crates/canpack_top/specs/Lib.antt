@@ -5,4 +5,5 @@ pub mod Text
 pub mod Write
 pub mod Answer
 pub mod Check
+pub mod Plan
 pub mod Reads

@@ -34,6 +34,7 @@ pub fn check<F: Folder>(alloc: Global, folder: &mut F, names: Names<'_>) -> Resu
     ensures one_place { IsSome (F.files folder.old) → IfOk result (λ found. found ≡ verdict.Placed → HasOnePlace (names_of names.entry) (F.files folder.old)) }
     ensures read_fault { IsErrOf result Stop.ReadFault
         → CheckFaults (names_of names.entry) (F.read_faults folder.old) (F.read_faults folder.new) }
+    ensures reads { IsErrOf result Stop.WriteFault → ⊥ }
     ensures only { ReadsOnly F.files F.read_faults F.write_faults F.given folder.old folder.new }
 {
     let problem = read_problem(alloc, folder, names)?;

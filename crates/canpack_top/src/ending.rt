@@ -17,6 +17,8 @@ pub enum Verdict {
 pub enum Stop {
     /// A read failed, and the folder's count of read faults rose.
     ReadFault,
+    /// A creation or an append failed, and the folder's count of write faults rose.
+    WriteFault,
     /// This file's text was refused.
     Refused(Role),
     /// Want of memory.

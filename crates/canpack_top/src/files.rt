@@ -28,6 +28,7 @@ pub fn network_at<F: Folder>(alloc: Global, folder: &mut F, name: &str) -> Resul
     ensures stands { IfOk result NetworkStands }
     ensures read_fault { IsErrOf result Stop.ReadFault
         → FaultAt (F.read_faults folder.old) (F.read_faults folder.new) name.now }
+    ensures reads { IsErrOf result Stop.WriteFault → ⊥ }
     ensures only { ReadsOnly F.files F.read_faults F.write_faults F.given folder.old folder.new }
 {
     let text = read_file(alloc, folder, name, TEXT_LIMIT, Role::Network)?;
@@ -42,6 +43,7 @@ pub fn signals_at<F: Folder>(alloc: Global, folder: &mut F, name: &str) -> Resul
     ensures free { IfOk result (λ signals. All IsFree signals.items) }
     ensures read_fault { IsErrOf result Stop.ReadFault
         → FaultAt (F.read_faults folder.old) (F.read_faults folder.new) name.now }
+    ensures reads { IsErrOf result Stop.WriteFault → ⊥ }
     ensures only { ReadsOnly F.files F.read_faults F.write_faults F.given folder.old folder.new }
 {
     let text = read_file(alloc, folder, name, TEXT_LIMIT, Role::Signals)?;
@@ -54,6 +56,7 @@ pub fn matrix_at<F: Folder>(alloc: Global, folder: &mut F, name: &str) -> Result
     ensures exact { IsSome (F.files folder.old) → Gives (λ matrix. matrix) result (matrix_at (F.files folder.old) name.now) }
     ensures read_fault { IsErrOf result Stop.ReadFault
         → FaultAt (F.read_faults folder.old) (F.read_faults folder.new) name.now }
+    ensures reads { IsErrOf result Stop.WriteFault → ⊥ }
     ensures only { ReadsOnly F.files F.read_faults F.write_faults F.given folder.old folder.new }
 {
     let text = read_file(alloc, folder, name, SIZE_LIMIT, Role::Matrix)?;
@@ -66,6 +69,7 @@ pub fn cert_at<F: Folder>(alloc: Global, folder: &mut F, name: &str) -> Result<(
     ensures exact { IsSome (F.files folder.old) → Gives (λ _. tt) result (cert_at (F.files folder.old) name.now) }
     ensures read_fault { IsErrOf result Stop.ReadFault
         → FaultAt (F.read_faults folder.old) (F.read_faults folder.new) name.now }
+    ensures reads { IsErrOf result Stop.WriteFault → ⊥ }
     ensures only { ReadsOnly F.files F.read_faults F.write_faults F.given folder.old folder.new }
 {
     let text = read_file(alloc, folder, name, SIZE_LIMIT, Role::Cert)?;

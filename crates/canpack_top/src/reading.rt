@@ -23,6 +23,7 @@ pub fn read_file<F: Folder>(
         → Gives (λ text. text.items) result (within limit role (bytes_at (F.files folder.old) name.now)) }
     ensures read_fault { IsErrOf result Stop.ReadFault
         → FaultAt (F.read_faults folder.old) (F.read_faults folder.new) name.now }
+    ensures reads { IsErrOf result Stop.WriteFault → ⊥ }
     ensures only { ReadsOnly F.files F.read_faults F.write_faults F.given folder.old folder.new }
 {
     match read_whole(alloc, folder, name, limit) {

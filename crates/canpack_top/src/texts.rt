@@ -16,7 +16,7 @@ use std::alloc::Global;
 const MARK: [u8; 3] = [0xef, 0xbb, 0xbf];
 
 /// The certificate of kind `placed`.
-const PLACED_CERT: &[u8] = b"canpack certificate 1\nkind placed\nend\n";
+pub const PLACED_CERT: &[u8] = b"canpack certificate 1\nkind placed\nend\n";
 
 /// Refuses a text with a byte order mark at its front.
 fn check_unmarked(text: &[u8], role: Role) -> Result<(), Stop>

@@ -1,17 +1,32 @@
 //! The top call.
 ghost use Rattle.std.specs.Prelude.{◌≡◌, ◌≢◌, ◌⊎◌, ◌≤◌, IsSome, IsNone};
 ghost use Rattle.pack_base.specs.Counts.{Rose};
-ghost use Rattle.pack_base.specs.Outside.{SaidPart, and_said};
+ghost use Rattle.pack_base.specs.Outside.{Later, SaidPart, and_said};
 ghost use Rattle.canpack_top.specs.declared.line.Role.{Role};
-ghost use Rattle.canpack_top.specs.Answer.{Accepted, IsExcused, OfCommand, OnePlaceEach, ReadFaultsRose, Refused, Rejected, SaysPart};
+ghost use Rattle.canpack_top.specs.Answer.{
+  Accepted,
+  Done,
+  IsCheck,
+  IsExcused,
+  IsRefused,
+  LeavesFiles,
+  OfCommand,
+  OnePlaceEach,
+  PartDone,
+  ReadFaultsRose,
+  Refused,
+  Rejected,
+  SaysNothing,
+  SaysPart,
+  WriteFaultsRose,
+};
 ghost use Rattle.canpack_top.specs.Command.{command_of};
 ghost use Rattle.canpack_top.specs.Line.{placed_line, refused_line, rejected_matrix_line, usage_line};
-ghost use Rattle.canpack_top.specs.Reads.{ReadsOnly};
 
-use crate::check::check;
-use crate::command::{Command, command_of};
+use crate::command::command_of;
 use crate::ending::{Stop, Verdict};
 use crate::line::{placed_line, rejected_matrix_line, usage_line};
+use crate::run::run;
 use pack_base::{Folder, Gate, Sink};
 use std::alloc::Global;
 use std::thread::Threads;
@@ -31,8 +46,8 @@ fn say<O: Sink>(out: &mut O, line: &[u8], status: u8) -> u8
     }
 }
 
-/// Does what the words ask for, and answers the status: 0 accepted, 1 usage, 2 a read fault, 4 a refused text,
-/// 5 a rejected matrix, 6 want of memory, 7 a fault in saying the line.
+/// Does what the words ask for, and answers the status: 0 done, 1 usage, 2 a read fault, 3 a write fault, 4 a refused
+/// text, 5 a rejected matrix, 6 want of memory, 7 a fault in saying the line.
 pub fn canpack<R: Threads, F: Folder, O: Sink, G: Gate + Sync>(
     _rt: &R,
     alloc: Global,
@@ -45,7 +60,7 @@ pub fn canpack<R: Threads, F: Folder, O: Sink, G: Gate + Sync>(
     ensures usage { result ≡ 1 → IsNone (command_of words.now) }
     ensures only_usage { IsNone (command_of words.now) → (result ≡ 1) ⊎ (result ≡ 7) }
     ensures read_fault { result ≡ 2 → OfCommand words.now (ReadFaultsRose (F.read_faults folder.old) (F.read_faults folder.new)) }
-    ensures no_write_fault { result ≢ 3 }
+    ensures write_fault { result ≡ 3 → OfCommand words.now (WriteFaultsRose (F.write_faults folder.old) (F.write_faults folder.new)) }
     ensures say_fault { result ≡ 7 → Rose (O.faults out.old) (O.faults out.new) }
     ensures statuses { result ≤ 7 }
 
@@ -61,31 +76,33 @@ pub fn canpack<R: Threads, F: Folder, O: Sink, G: Gate + Sync>(
         → (result ≡ 0) ⊎ IsExcused result }
     ensures rejects { IsSome (F.files folder.old) → OfCommand words.now (Rejected (F.files folder.old))
         → (result ≡ 5) ⊎ IsExcused result }
-    ensures refuses { IsSome (F.files folder.old) → (part : Role) → OfCommand words.now (Refused part (F.files folder.old))
+    ensures refuses { IsSome (F.files folder.old) → OfCommand words.now (IsRefused (F.files folder.old))
         → (result ≡ 4) ⊎ IsExcused result }
+
+    // The files that are left.
+    ensures done { result ≡ 0 → IsSome (F.files folder.old) → OfCommand words.now (Done (F.files folder.old) (F.files folder.new)) }
+    ensures part_done { result ≡ 3 → IsSome (F.files folder.old) → OfCommand words.now (PartDone (F.files folder.old) (F.files folder.new)) }
+    ensures same { LeavesFiles result → F.files folder.new ≡ F.files folder.old }
+    ensures check { OfCommand words.now IsCheck → F.files folder.new ≡ F.files folder.old }
+    ensures later { Later F.read_faults F.write_faults F.given folder.old folder.new }
 
     // The line that was said.
     ensures usage_said { result ≡ 1 → O.said out.new ≡ and_said (O.said out.old) usage_line }
     ensures placed_said { result ≡ 0 → O.said out.new ≡ and_said (O.said out.old) placed_line }
     ensures rejected_said { result ≡ 5 → O.said out.new ≡ and_said (O.said out.old) rejected_matrix_line }
-    ensures part_said { result ≡ 7 → SaysPart (F.files folder.old) words.now (O.said out.old) (O.said out.new) }
-    ensures nothing_said { (result ≡ 2) ⊎ (result ≡ 6) → O.said out.new ≡ O.said out.old }
-
-    // The folder is only read.
-    ensures only_read { ReadsOnly F.files F.read_faults F.write_faults F.given folder.old folder.new }
-    ensures later { O.faults out.old ≤ O.faults out.new }
+    ensures part_said { result ≡ 7 → SaysPart (F.files folder.old) (F.files folder.new) words.now (O.said out.old) (O.said out.new) }
+    ensures nothing_said { SaysNothing result → O.said out.new ≡ O.said out.old }
+    ensures said_later { O.faults out.old ≤ O.faults out.new }
 {
     let Some(command) = command_of(words) else {
         return say(out, usage_line(), 1);
     };
-    let ending = match command {
-        Command::Check(names) => check(alloc, folder, names),
-    };
-    match ending {
+    match run(alloc, folder, command) {
         Ok(Verdict::Placed) => say(out, placed_line(), 0),
         Ok(Verdict::RejectedMatrix) => say(out, rejected_matrix_line(), 5),
         Err(Stop::Refused(role)) => say(out, role.refused_line(), 4),
         Err(Stop::ReadFault) => 2,
+        Err(Stop::WriteFault) => 3,
         Err(Stop::Memory) => 6,
     }
 }

@@ -56,7 +56,7 @@ count_either p q apart (x ∷ xs) = by (p x) refl (count_either p q apart xs)
         omega (arith, counted (λ i. p i || q i) x xs, counted p x xs, counted q x xs, both, one, ih)
 
 -- each number below n stands once among them
-count_here : (n x : ℕ) → x < n → count_by (λ i. nat_eq i x) (range_with_len 0 n) ≡ 1
+pub count_here : (n x : ℕ) → x < n → count_by (λ i. nat_eq i x) (range_with_len 0 n) ≡ 1
 count_here n x lt =
     let within : x < length (range_with_len 0 n) = simp length-range_with_len lt in
     count_only (λ i. nat_eq i x) (range_with_len 0 n) x within

@@ -39,7 +39,7 @@ not_true true h = absurd (h refl)
 not_true false h = refl
 
 -- a name that is at one place is at no other
-elsewhere : (problem : Parts) → IsProblem problem → (name : List ℕ) (place other : ℕ) → place < length problem.signals → other < length problem.signals → (other ≡ place → ⊥) → bytes_eq name (name_at problem.signals place) ≡ true → bytes_eq (name_at problem.signals other) name ≡ false
+pub elsewhere : (problem : Parts) → IsProblem problem → (name : List ℕ) (place other : ℕ) → place < length problem.signals → other < length problem.signals → (other ≡ place → ⊥) → bytes_eq name (name_at problem.signals place) ≡ true → bytes_eq (name_at problem.signals other) name ≡ false
 elsewhere problem stands name place other lt lt2 differ is =
     let same : name ≡ name_at problem.signals place = (bytes_eq-Decides name (name_at problem.signals place)).0 is in
     subst (λ n. bytes_eq (name_at problem.signals other) n ≡ false) (sym same) (by (cases_lt other place))

@@ -1,4 +1,5 @@
 pub mod Frames
+pub mod LaidOut
 pub mod MatrixText
 pub mod OnePlace
 pub mod Placed

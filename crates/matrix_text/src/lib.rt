@@ -5,13 +5,17 @@
 #![tactic(auto)]
 
 mod checks;
+mod classes;
+mod frame_rows;
 mod frames;
 mod labels;
+mod layout;
 mod matrix;
 mod overlap;
 mod signal_rows;
 mod text;
 
 pub use labels::labels_of;
+pub use layout::{matrix_of, one_frame_each};
 pub use matrix::{Header, Matrix, MatrixRow};
 pub use text::{MatrixFault, read_matrix, write_matrix};

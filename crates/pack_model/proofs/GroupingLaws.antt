@@ -1,10 +1,15 @@
 -- Laws of groupings and of their classes.
-use Rattle.std.proofs.Common.{◌≡◌, ℕ, ◌+◌, ◌<◌, ◌≤◌, Bool, true, false, cond, List, [], ◌∷◌, ◌++◌, length, map, filter, take, get_or, max, nat_eq, suc, zero, refl, sym, ap, ◌∙◌, arith, length-take-le, add-one}
-use Rattle.std.specs.List.{zip}
-use Rattle.std.proofs.lemmas.List.{map-append, take_more, take_all}
-use Rattle.std.proofs.lemmas.List.Elements.{filter-append}
+use Rattle.std.proofs.Common.{◌≡◌, ℕ, ◌+◌, ◌<◌, ◌≤◌, ◌⊎◌, Bool, true, false, cond, List, [], ◌∷◌, ◌++◌, length, map, filter, take, get_or, max, nat_eq, All, suc, zero, ◌*◌, inl, inr, count_by, sum_by, ◌||◌, Any, true≢false, refl, sym, ap, ◌∙◌, arith, length-take-le, add-one}
+use Rattle.std.specs.List.{zip, list_any, IsDistinct}
+use Rattle.std.proofs.lemmas.Bool.{cases_eq, cases_lt, ne_eqb, eq-eqb, eqb-true}
+use Rattle.std.proofs.lemmas.List.Sums.{sum_by-cons}
+use Rattle.std.proofs.lemmas.List.Folds.{list_any_at, Any-from_list_any}
+use Rattle.std.proofs.lemmas.Map.Keys.{IsDistinct-cons, IsDistinct-from_apart}
+use Rattle.std.proofs.lemmas.Map.Steps.{length-le_from_distinct_below, le-length_from_below}
+use Rattle.std.proofs.lemmas.List.{map-append, take_more, take_all, get_or_default}
+use Rattle.std.proofs.lemmas.List.Elements.{filter-append, All-nil, All-cons, All-head, All-tail, recursion_from_All}
 use Rattle.pack_model.specs.declared.item.Item.{Item}
-use Rattle.pack_model.specs.Grouping.{classes_of, class_of, IsGrouping}
+use Rattle.pack_model.specs.Grouping.{classes_of, class_of, IsGrouping, IsOrder}
 
 -- one more pair
 pub zip-push : {X : Type 0} (labels : List ℕ) (xs : List X) (label : ℕ) (x : X) → length labels ≡ length xs → zip (labels ++ label ∷ []) (xs ++ x ∷ []) ≡ zip labels xs ++ (label, x) ∷ []
@@ -57,3 +62,135 @@ pub classes_of-le-length : (items : List Item) (labels : List ℕ) → IsGroupin
 classes_of-le-length items labels grouping =
     let all = front_classes labels grouping.by_first_use (length labels) (omega arith) in
     omega (arith, ap classes_of (take_all (length labels) labels (omega arith)), grouping.each)
+
+-- the class of the first element and the others
+pub class_of-cons : {X : Type 0} (k label : ℕ) (labels : List ℕ) (x : X) (xs : List X) → class_of k (label ∷ labels) (x ∷ xs) ≡ cond (nat_eq label k) (x ∷ class_of k labels xs) (class_of k labels xs)
+class_of-cons {X} k label labels x xs = by (nat_eq label k)
+  where
+    by : (b : Bool) → map (λ (e : ℕ × X). e.1) (cond b ((label, x) ∷ filter (λ e. nat_eq e.0 k) (zip labels xs)) (filter (λ e. nat_eq e.0 k) (zip labels xs))) ≡ cond b (x ∷ class_of k labels xs) (class_of k labels xs)
+    by true = refl
+    by false = refl
+
+-- what holds of each element holds of those of a class
+pub All-class_of : {X : Type 0} (P : X → Type 0) (k : ℕ) (labels : List ℕ) (xs : List X) → All P xs → All P (class_of k labels xs)
+All-class_of P k [] xs all = All-nil P
+All-class_of P k (label ∷ labels) [] all = All-nil P
+All-class_of {X} P k (label ∷ labels) (x ∷ xs) all = by (nat_eq label k) (All-class_of P k labels xs (All-tail P x xs all))
+  where
+    by : (b : Bool) → All P (class_of k labels xs) → All P (map (λ (e : ℕ × X). e.1) (cond b ((label, x) ∷ filter (λ e. nat_eq e.0 k) (zip labels xs)) (filter (λ e. nat_eq e.0 k) (zip labels xs))))
+    by true rest = All-cons P x (class_of k labels xs) (All-head P x xs all) rest
+    by false rest = rest
+
+-- a sum of zeros
+sum_by-nothing : {X : Type 0} (xs : List X) → sum_by (λ _. 0) xs ≡ 0
+sum_by-nothing [] = refl
+sum_by-nothing {X} (x ∷ xs) = omega (arith, sum_by-cons (λ (y : X). 0) x xs, sum_by-nothing xs)
+
+-- one more place of a number that is counted
+counted_step : (k label n c total rest : ℕ) (b e : Bool) → b ≡ e → total ≡ n * c + rest → (m : ℕ) → (cond b n 0 + m) + total ≡ n * (cond e 1 0 + c) + (m + rest)
+counted_step k label n c total rest true true same ih m = omega arith
+counted_step k label n c total rest false false same ih m = omega arith
+counted_step k label n c total rest true false same ih m = absurd (cc)
+counted_step k label n c total rest false true same ih m = absurd (cc)
+
+-- tests of numbers go both ways
+both_ways : (a b : ℕ) → nat_eq a b ≡ nat_eq b a
+both_ways a b = by (cases_eq a b)
+  where
+    by : (a ≡ b) ⊎ (a ≡ b → ⊥) → nat_eq a b ≡ nat_eq b a
+    by (inl e) = eq-eqb a b e ∙ sym (eq-eqb b a (sym e))
+    by (inr ne) = ne_eqb a b ne ∙ sym (ne_eqb b a (λ e. ne (sym e)))
+
+-- what is added wherever a number stands is added as often as it is counted
+counted_at : (order : List ℕ) (label n : ℕ) (f : ℕ → ℕ) → sum_by (λ k. cond (nat_eq label k) n 0 + f k) order ≡ n * count_by (λ x. nat_eq x label) order + sum_by f order
+counted_at [] label n f = omega arith
+counted_at (k ∷ order) label n f =
+    sum_by-cons (λ j. cond (nat_eq label j) n 0 + f j) k order
+    ∙ counted_step k label n (count_by (λ x. nat_eq x label) order) _ (sum_by f order) (nat_eq label k) (nat_eq k label) (both_ways label k) (counted_at order label n f) (f k)
+    ∙ ap (λ m. n * m + (f k + sum_by f order)) (sym (sum_by-cons (λ x. cond (nat_eq x label) 1 0) k order))
+    ∙ ap (λ m. n * count_by (λ x. nat_eq x label) (k ∷ order) + m) (sym (sum_by-cons f k order))
+
+-- sums over the classes of an order are sums over all elements
+pub sum_by-classes : {X : Type 0} (w : X → ℕ) (order labels : List ℕ) (xs : List X) → length labels ≡ length xs → All (λ label. count_by (λ x. nat_eq x label) order ≡ 1) labels → sum_by (λ k. sum_by w (class_of k labels xs)) order ≡ sum_by w xs
+sum_by-classes w order [] [] same once = sum_by-nothing order
+sum_by-classes w order [] (x ∷ xs) same once = absurd (omega arith)
+sum_by-classes w order (label ∷ labels) [] same once = absurd (omega arith)
+sum_by-classes w order (label ∷ labels) (x ∷ xs) same once =
+    ap (λ f. sum_by f order) (λ i k. one_class k i)
+    ∙ counted_at order label (w x) (λ k. sum_by w (class_of k labels xs))
+    ∙ omega (arith, ap (λ c. w x * c) (All-head (λ label. count_by (λ x. nat_eq x label) order ≡ 1) label labels once), sum_by-classes w order labels xs (omega arith) (All-tail (λ label. count_by (λ x. nat_eq x label) order ≡ 1) label labels once), sum_by-cons w x xs)
+  where
+    one_class : (k : ℕ) → sum_by w (class_of k (label ∷ labels) (x ∷ xs)) ≡ cond (nat_eq label k) (w x) 0 + sum_by w (class_of k labels xs)
+    one_class k = ap (sum_by w) (class_of-cons k label labels x xs) ∙ by (nat_eq label k)
+      where
+        by : (b : Bool) → sum_by w (cond b (x ∷ class_of k labels xs) (class_of k labels xs)) ≡ cond b (w x) 0 + sum_by w (class_of k labels xs)
+        by true = sum_by-cons w x (class_of k labels xs)
+        by false = omega arith
+
+-- a number that is counted is found
+pub found_from_count : (order : List ℕ) (label : ℕ) → 1 ≤ count_by (λ x. nat_eq x label) order → list_any (nat_eq label) order ≡ true
+found_from_count [] label some = absurd (omega arith)
+found_from_count (k ∷ order) label some = by (cases_eq label k) (found_from_count order label)
+  where
+    by : (label ≡ k) ⊎ (label ≡ k → ⊥) → (1 ≤ count_by (λ x. nat_eq x label) order → list_any (nat_eq label) order ≡ true) → (nat_eq label k || list_any (nat_eq label) order) ≡ true
+    by (inl e) rest = ap (λ b. b || list_any (nat_eq label) order) (eq-eqb label k e)
+    by (inr ne) rest =
+        ap (λ b. b || list_any (nat_eq label) order) (ne_eqb label k ne)
+        ∙ rest (omega (arith, some, sum_by-cons (λ x. cond (nat_eq x label) 1 0) k order, ap {B = ℕ} (λ b. cond b 1 0) (ne_eqb k label (λ e. ne (sym e)))))
+
+-- and one that is found is counted
+pub count_from_found : (order : List ℕ) (label : ℕ) → list_any (nat_eq label) order ≡ true → 1 ≤ count_by (λ x. nat_eq x label) order
+count_from_found [] label found = absurd (true≢false (sym found))
+count_from_found (k ∷ order) label found = by (cases_eq label k) (count_from_found order label)
+  where
+    by : (label ≡ k) ⊎ (label ≡ k → ⊥) → (list_any (nat_eq label) order ≡ true → 1 ≤ count_by (λ x. nat_eq x label) order) → 1 ≤ count_by (λ x. nat_eq x label) (k ∷ order)
+    by (inl e) rest = omega (arith, sum_by-cons (λ x. cond (nat_eq x label) 1 0) k order, ap {B = ℕ} (λ b. cond b 1 0) (eq-eqb k label (sym e)))
+    by (inr ne) rest =
+        let later = rest (sym (ap (λ b. b || list_any (nat_eq label) order) (ne_eqb label k ne)) ∙ found) in
+        omega (arith, sum_by-cons (λ x. cond (nat_eq x label) 1 0) k order, later)
+
+-- numbers that are counted at most once are distinct
+distinct_from_counts : (order : List ℕ) → ((label : ℕ) → count_by (λ x. nat_eq x label) order ≤ 1) → IsDistinct nat_eq order
+distinct_from_counts [] few = IsDistinct-from_apart nat_eq [] (λ i j d before lt. absurd (omega arith))
+distinct_from_counts (k ∷ order) few =
+    IsDistinct-cons nat_eq k order (recursion_from_All (λ y. nat_eq k y ≡ false) order (λ i d lt. apart i d lt))
+    (distinct_from_counts order (λ label. omega (arith, few label, sum_by-cons (λ x. cond (nat_eq x label) 1 0) k order)))
+  where
+    none_left : count_by (λ x. nat_eq x k) order ≡ 0
+    none_left = omega (arith, few k, sum_by-cons (λ x. cond (nat_eq x k) 1 0) k order, ap {B = ℕ} (λ b. cond b 1 0) (eq-eqb k k refl))
+
+    by : (b : Bool) (i d : ℕ) → i < length order → nat_eq k (get_or order i d) ≡ b → nat_eq k (get_or order i d) ≡ false
+    by false i d lt e = e
+    by true i d lt e =
+        let found : list_any (nat_eq k) order ≡ true = list_any_at (nat_eq k) order i d lt e in
+        absurd (omega (arith, none_left, count_from_found order k found))
+
+    apart : (i d : ℕ) → i < length order → nat_eq k (get_or order i d) ≡ false
+    apart i d lt = by (nat_eq k (get_or order i d)) i d lt refl
+
+-- an order has as many labels as there are classes
+pub length-order : (labels order : List ℕ) → IsOrder labels order → length order ≡ classes_of labels
+length-order labels order stands =
+    let n = classes_of labels in
+    let below : (q : ℕ) → list_any (nat_eq q) order ≡ true → q < classes_of labels = λ q found. below_all q (Any-from_list_any (nat_eq q) order found) in
+    let few : (q : ℕ) → count_by (λ x. nat_eq x q) order ≤ 1 = λ q. at_most q (cases_lt q (classes_of labels)) below in
+    let most = length-le_from_distinct_below order (classes_of labels) (distinct_from_counts order few) below in
+    let least = le-length_from_below order (classes_of labels) (λ q lt. found_from_count order q (omega (arith, stands.once q lt))) in
+    omega arith
+  where
+    below_all : (q : ℕ) → Any (λ x. nat_eq q x ≡ true) order → q < classes_of labels
+    below_all q (i, x, lt, at, e) =
+        let same : q ≡ x = eqb-true q x e in
+        omega (arith, stands.only i x lt, at)
+
+    at_most : (q : ℕ) → (q < classes_of labels) ⊎ (classes_of labels ≤ q) → ((p : ℕ) → list_any (nat_eq p) order ≡ true → p < classes_of labels) → count_by (λ x. nat_eq x q) order ≤ 1
+    at_most q (inl lt) below = omega (arith, stands.once q lt)
+    at_most q (inr ge) below = by (cases_lt 0 (count_by (λ x. nat_eq x q) order))
+      where
+        by : (0 < count_by (λ x. nat_eq x q) order) ⊎ (count_by (λ x. nat_eq x q) order ≤ 0) → count_by (λ x. nat_eq x q) order ≤ 1
+        by (inl some) = absurd (omega (arith, below q (found_from_count order q (omega arith))))
+        by (inr none) = omega arith
+
+-- each label is counted once in an order
+pub labels_once : (labels order : List ℕ) → IsOrder labels order → All (λ label. count_by (λ x. nat_eq x label) order ≡ 1) labels
+labels_once labels order stands = λ k d lt. stands.once (get_or labels k d) (rw (get_or_default labels k d 0 lt) (label-lt-classes_of labels k lt))

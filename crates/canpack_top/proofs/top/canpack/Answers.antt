@@ -7,16 +7,16 @@ use Rattle.canpack_top.proofs.top.canpack.Goals as goal
 
 pub returns-in_default-clause-part_said : goal.returns-in_default-clause-part_said
 returns-in_default-clause-part_said g c = λ failed.
-    says_part _ _ _ _ _ usage_line c.usage_line.ensures (usage (grind (arith, common_steps))) (c.say.ensures.part failed)
+    says_part _ _ _ _ _ _ usage_line c.usage_line.ensures (usage (grind (arith, common_steps)) (grind (arith, common_steps))) (c.say.ensures.part failed)
 
 pub returns-in-Ok-Placed-clause-part_said : goal.returns-in-Ok-Placed-clause-part_said
 returns-in-Ok-Placed-clause-part_said g c = λ failed.
-    says_part _ _ _ _ _ placed_line c.placed_line.ensures (placed (λ told. grind (arith, common_steps))) (c.say-in-Ok-Placed.ensures.part failed)
+    says_part _ _ _ _ _ _ placed_line c.placed_line.ensures (placed (λ told. grind (arith, common_steps)) (λ told. grind (arith, common_steps))) (c.say-in-Ok-Placed.ensures.part failed)
 
 pub returns-in-Ok-RejectedMatrix-clause-part_said : goal.returns-in-Ok-RejectedMatrix-clause-part_said
 returns-in-Ok-RejectedMatrix-clause-part_said g c = λ failed.
-    says_part _ _ _ _ _ rejected_matrix_line c.rejected_matrix_line.ensures (rejected (λ told. grind (arith, common_steps))) (c.say-in-Ok-RejectedMatrix.ensures.part failed)
+    says_part _ _ _ _ _ _ rejected_matrix_line c.rejected_matrix_line.ensures (rejected (λ told. grind (arith, common_steps)) (grind (arith, common_steps))) (c.say-in-Ok-RejectedMatrix.ensures.part failed)
 
 pub returns-in-Err-Refused-clause-part_said : goal.returns-in-Err-Refused-clause-part_said
 returns-in-Err-Refused-clause-part_said g c = λ failed.
-    says_part _ _ _ _ _ _ c.refused_line.ensures (refused _ (λ told. grind (arith, common_steps))) (c.say-in-Err-Refused.ensures.part failed)
+    says_part _ _ _ _ _ _ _ c.refused_line.ensures (refused _ (λ told. grind (arith, common_steps)) (grind (arith, common_steps))) (c.say-in-Err-Refused.ensures.part failed)

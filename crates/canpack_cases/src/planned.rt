@@ -1,0 +1,182 @@
+// What `plan` writes, and what is left where a call fails.
+use crate::runs::{CERT, CHECK, NAMES, NETWORK, SIGNALS, status_of};
+use pack_base::{MemFolder, MemSink};
+use std::test::Fail;
+
+const PLAN: [&str; 7] = [
+    "plan",
+    "network.json",
+    "signals.csv",
+    "matrix.csv",
+    "cert.txt",
+    "1000",
+    "1",
+];
+
+/// Two signals of 8 bits, each in a frame of its own.
+const PLANNED: &[u8] =
+    b"id,sender,size,ticks,header,pdu,at,signal,start,bits\n256,ECU1,1,7000,none,,0,S1,0,8\n257,ECU1,1,7000,none,,0,S2,0,8\n";
+
+/// Words that are no line of `plan`.
+const WRONG: [&[&str]; 7] = [
+    &[
+        "plan",
+        "network.json",
+        "signals.csv",
+        "out",
+        "out",
+        "1000",
+        "1",
+    ],
+    &[
+        "plan",
+        "network.json",
+        "signals.csv",
+        "matrix.csv",
+        "cert.txt",
+        "0",
+        "1",
+    ],
+    &[
+        "plan",
+        "network.json",
+        "signals.csv",
+        "matrix.csv",
+        "cert.txt",
+        "1000001",
+        "1",
+    ],
+    &[
+        "plan",
+        "network.json",
+        "signals.csv",
+        "matrix.csv",
+        "cert.txt",
+        "01",
+        "1",
+    ],
+    &[
+        "plan",
+        "network.json",
+        "signals.csv",
+        "matrix.csv",
+        "cert.txt",
+        "1000",
+        "2",
+    ],
+    &[
+        "plan",
+        "network.json",
+        "signals.csv",
+        "matrix.csv",
+        "",
+        "1000",
+        "1",
+    ],
+    &[
+        "plan",
+        "network.json",
+        "signals.csv",
+        "matrix.csv",
+        "cert.txt",
+        "1000",
+    ],
+];
+
+#[test]
+fn wrong_words_write_nothing(rt: HostRuntime) -> Result<(), Fail> {
+    for (number, words) in WRONG.iter().enumerate() {
+        let mut folder = MemFolder::new(rt.alloc());
+        let mut out = MemSink::new(rt.alloc());
+        assert_eq!(rt;
+            status_of(&rt, words, &mut folder, &mut out)?,
+            1,
+            "words {number}"
+        );
+        assert!(rt; folder.get("out").is_none(), "words {number}");
+    }
+    Ok(())
+}
+
+/// The call of the folder that fails, whether saying fails, the status, MATRIX and CERT after it, and what is said.
+/// The two texts take two calls each to read, and each file one to create and one to append to.
+const RUNS: [(u64, bool, u8, Option<&[u8]>, Option<&[u8]>, &[u8]); 8] = [
+    (0, false, 0, Some(PLANNED), Some(CERT), b"placed\n"),
+    (0, true, 7, Some(PLANNED), Some(CERT), b""),
+    (3, false, 2, None, None, b""),
+    (5, false, 3, None, None, b""),
+    (6, false, 3, Some(b""), None, b""),
+    (7, false, 3, Some(PLANNED), None, b""),
+    (8, false, 3, Some(PLANNED), Some(b""), b""),
+    (9, false, 0, Some(PLANNED), Some(CERT), b"placed\n"),
+];
+
+#[test]
+fn files_after_a_plan(rt: HostRuntime) -> Result<(), Fail> {
+    for (number, (call, mute, status, matrix, cert, said)) in RUNS.iter().enumerate() {
+        let mut folder = MemFolder::new(rt.alloc());
+        folder.put(NAMES[0], NETWORK)?;
+        folder.put(NAMES[1], SIGNALS)?;
+        folder.fail_at(*call)?;
+        let mut out = MemSink::new(rt.alloc());
+        if *mute {
+            out.fail_at(1)?;
+        }
+        assert_eq!(rt;
+            status_of(&rt, &PLAN, &mut folder, &mut out)?,
+            *status,
+            "run {number}"
+        );
+        assert_eq!(rt; folder.get("matrix.csv"), *matrix, "run {number}");
+        assert_eq!(rt; folder.get("cert.txt"), *cert, "run {number}");
+        assert_eq!(rt; folder.get("signals.csv"), Some(SIGNALS), "run {number}");
+        assert_eq!(rt; out.said(), *said, "run {number}");
+    }
+    Ok(())
+}
+
+/// Signals that are planned, and then checked.
+const PLANS: [(&[u8], u8, u8, &[u8]); 4] = [
+    (SIGNALS, 0, 0, b"placed\nplaced\n"),
+    // Two senders, and signals of 9, 33, 49 and 512 bits.
+    (
+        b"signal,sender,pdu,bits,period_us,deadline_us,jitter_us\nA,E2,,9,10000,,\nB,E1,,33,10000,,\nC,E2,,49,10000,,\nD,E1,,512,1000000,,\n",
+        0,
+        0,
+        b"placed\nplaced\n",
+    ),
+    (
+        b"signal,sender,pdu,bits,period_us,deadline_us,jitter_us\n",
+        4,
+        4,
+        b"refused SIGNALS\nrefused SIGNALS\n",
+    ),
+    (
+        b"signal,sender,pdu,bits,period_us,deadline_us,jitter_us\nA,E2,7,9,10000,,\n",
+        4,
+        4,
+        b"refused SIGNALS\nrefused SIGNALS\n",
+    ),
+];
+
+#[test]
+fn planned_then_checked(rt: HostRuntime) -> Result<(), Fail> {
+    for (number, (signals, planned, checked, said)) in PLANS.iter().enumerate() {
+        let mut folder = MemFolder::new(rt.alloc());
+        folder.put(NAMES[0], NETWORK)?;
+        folder.put(NAMES[1], signals)?;
+        let mut out = MemSink::new(rt.alloc());
+        assert_eq!(rt;
+            status_of(&rt, &PLAN, &mut folder, &mut out)?,
+            *planned,
+            "plan {number}"
+        );
+        assert_eq!(rt;
+            status_of(&rt, &CHECK, &mut folder, &mut out)?,
+            *checked,
+            "plan {number}"
+        );
+        assert_eq!(rt; out.said(), *said, "plan {number}");
+    }
+    Ok(())
+}

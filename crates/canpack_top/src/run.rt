@@ -1,0 +1,55 @@
+//! One command.
+ghost use Rattle.std.specs.Prelude.{◌≡◌, ◌≢◌, ◌⊎◌, Ok, Err, IsSome, IsErrOf, IsTrue, true};
+ghost use Rattle.pack_base.specs.Outside.{Later};
+ghost use Rattle.canpack_top.specs.declared.ending.Verdict.TheVariants as verdict;
+ghost use Rattle.canpack_top.specs.Answer.{
+  Accepted,
+  IsAnswer,
+  IsCheck,
+  IsRefusal,
+  IsRefused,
+  IsStopped,
+  Leaves,
+  OnePlaceEach,
+  ReadFaultsRose,
+  Rejected,
+  WriteFaultsRose,
+};
+ghost use Rattle.canpack_top.specs.Command.{AreNames, seen};
+
+use crate::check::check;
+use crate::command::Command;
+use crate::ending::{Stop, Verdict};
+use crate::plan::plan;
+use pack_base::Folder;
+use std::alloc::Global;
+
+/// Does what a command asks for, but for saying its line.
+pub fn run<F: Folder>(alloc: Global, folder: &mut F, command: Command<'_>) -> Result<Verdict, Stop>
+    requires { AreNames (seen command) }
+
+    ensures answer { IsSome (F.files folder.old) → IsAnswer result (F.files folder.old) (seen command.entry) }
+    ensures accepts { IsSome (F.files folder.old) → Accepted (F.files folder.old) (seen command.entry)
+        → (result ≡ Ok verdict.Placed) ⊎ IsStopped result }
+    ensures rejects { IsSome (F.files folder.old) → Rejected (F.files folder.old) (seen command.entry)
+        → (result ≡ Ok verdict.RejectedMatrix) ⊎ IsStopped result }
+    ensures refuses { IsSome (F.files folder.old) → IsRefused (F.files folder.old) (seen command.entry)
+        → IsRefusal result ⊎ IsStopped result }
+
+    ensures one_place { IsSome (F.files folder.old) → result ≡ Ok verdict.Placed → OnePlaceEach (F.files folder.old) (seen command.entry) }
+    ensures read_fault { IsErrOf result Stop.ReadFault
+        → ReadFaultsRose (F.read_faults folder.old) (F.read_faults folder.new) (seen command.entry) }
+    ensures write_fault { IsErrOf result Stop.WriteFault
+        → WriteFaultsRose (F.write_faults folder.old) (F.write_faults folder.new) (seen command.entry) }
+    ensures leaves { Leaves result (F.files folder.old) (F.files folder.new) (seen command.entry) }
+    ensures check { IsCheck (seen command.entry) → F.files folder.new ≡ F.files folder.old }
+    ensures later { Later F.read_faults F.write_faults F.given folder.old folder.new }
+{
+    match command {
+        Command::Check(names) => check(alloc, folder, names),
+        Command::Plan(names, _) => {
+            plan(alloc, folder, names)?;
+            Ok(Verdict::Placed)
+        }
+    }
+}

@@ -1,0 +1,12 @@
+use Rattle.std.proofs.Common.{All, sym, subst, ◌∙◌}
+use Rattle.matrix_text.specs.Row.{RowInRange}
+use Rattle.matrix_text.specs.Placed.{Placed}
+use Rattle.matrix_text.proofs.LaidRows.{laid_in_range}
+use Rattle.matrix_text.proofs.LaidPlaced.{laid_placed}
+use Rattle.matrix_text.proofs.layout.matrix_of.Goals as goal
+
+pub of-requires : goal.of-requires
+of-requires c = subst (All RowInRange) (sym c.in_ok-rows.ensures.rows) (laid_in_range c.args.problem.now c.args.labels.now c.args.order.now c.laid_rows.ensures.problem c.laid_rows.ensures.sorted c.requires.legal c.requires.order)
+
+pub returns-clause-placed : goal.returns-clause-placed
+returns-clause-placed c = subst (Placed c.args.problem.now) (sym (c.of.ensures ∙ c.in_ok-rows.ensures.rows)) (laid_placed c.args.problem.now c.args.labels.now c.args.order.now c.laid_rows.ensures.problem c.laid_rows.ensures.sorted c.requires.legal c.requires.order)

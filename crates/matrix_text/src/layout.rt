@@ -1,0 +1,73 @@
+//! The communication matrix of a grouping.
+ghost use Rattle.std.specs.Prelude.{◌≡◌, IfOk};
+ghost use Rattle.std.specs.List.{range_with_len};
+ghost use Rattle.pack_model.specs.Grouping.{IsLegal, IsOrder};
+ghost use Rattle.pack_model.specs.Problem.{IsProblem, IsSorted};
+ghost use Rattle.matrix_text.specs.LaidOut.{rows_of, rows_one_each};
+ghost use Rattle.matrix_text.specs.Placed.{Placed};
+
+use crate::classes::places_by_class;
+use crate::frame_rows::add_frame;
+use crate::matrix::{Matrix, MatrixRow};
+use pack_model::{Memory, Problem};
+use std::alloc::{AllocError, Global};
+
+/// The matrix of a legal grouping: the class that `order` names at place `k` becomes the frame with
+/// identifier `first_id + k`, which has the least data length for its signals, one after another in
+/// list order. Rows are by identifier, and then by list place.
+pub fn matrix_of(
+    alloc: Global,
+    problem: &Problem,
+    labels: &[u32],
+    order: &[u32],
+) -> Result<Matrix, Memory>
+    requires legal { IsLegal problem.now labels.now }
+    requires order { IsOrder labels.now order.now }
+    ensures rows { IfOk result (λ matrix. matrix ≡ rows_of problem.now labels.now order.now) }
+    ensures placed { IfOk result (λ matrix. Placed problem.now matrix) }
+{
+    let rows = laid_rows(alloc, problem, labels, order)?;
+    Ok(Matrix::of(rows))
+}
+
+/// The matrix of one frame for each item: the item of number `k` has the frame with identifier
+/// `first_id + k`.
+pub fn one_frame_each(alloc: Global, problem: &Problem) -> Result<Matrix, Memory>
+    ensures rows { IfOk result (λ matrix. matrix ≡ rows_one_each problem.now) }
+    ensures placed { IfOk result (λ matrix. Placed problem.now matrix) }
+{
+    let numbers = numbers_below(alloc, problem.items().len() as u32)?;
+    matrix_of(alloc, problem, numbers.as_slice(), numbers.as_slice())
+}
+
+/// The numbers below a count, ascending.
+fn numbers_below(alloc: Global, count: u32) -> Result<Vec<u32>, AllocError>
+    ensures { IfOk result (λ numbers. numbers.items ≡ range_with_len 0 count) }
+{
+    (0..count).collect(alloc)
+}
+
+/// The rows of the matrix of a legal grouping.
+fn laid_rows(
+    alloc: Global,
+    problem: &Problem,
+    labels: &[u32],
+    order: &[u32],
+) -> Result<Vec<MatrixRow>, Memory>
+    requires legal { IsLegal problem.now labels.now }
+    requires order { IsOrder labels.now order.now }
+    ensures rows { IfOk result (λ rows. rows.items ≡ rows_of problem.now labels.now order.now) }
+    ensures problem { IsProblem problem.now }
+    ensures sorted { IsSorted problem.now.signals problem.now.items }
+{
+    let network = problem.network();
+    let signals = problem.signals();
+    let places = places_by_class(alloc, problem.items(), labels, order.len())?;
+    let mut rows = Vec::with_capacity(alloc, signals.len())?;
+    for (number, &label) in order.iter().enumerate() {
+        let id = network.first_id + number as u32;
+        let class = places[label as usize].as_slice();
+        add_frame(alloc, network, id, signals, class, &mut rows)?;
+    }
+    Ok(rows)
+}
