@@ -7,6 +7,8 @@ pub mod FrameSteps
 pub mod FramesFound
 pub mod InOrder
 pub mod InUse
+pub mod LabelLaws
+pub mod LaidGrouping
 pub mod LaidPlaced
 pub mod LaidRows
 pub mod LaidSteps

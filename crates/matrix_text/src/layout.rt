@@ -3,6 +3,7 @@ ghost use Rattle.std.specs.Prelude.{◌≡◌, IfOk};
 ghost use Rattle.std.specs.List.{range_with_len};
 ghost use Rattle.pack_model.specs.Grouping.{IsLegal, IsOrder};
 ghost use Rattle.pack_model.specs.Problem.{IsProblem, IsSorted};
+ghost use Rattle.matrix_text.specs.Frames.{grouping_of, order_of};
 ghost use Rattle.matrix_text.specs.LaidOut.{rows_of, rows_one_each};
 ghost use Rattle.matrix_text.specs.Placed.{Placed};
 
@@ -25,6 +26,8 @@ pub fn matrix_of(
     requires order { IsOrder labels.now order.now }
     ensures rows { IfOk result (λ matrix. matrix ≡ rows_of problem.now labels.now order.now) }
     ensures placed { IfOk result (λ matrix. Placed problem.now matrix) }
+    ensures grouping { IfOk result (λ matrix. grouping_of problem.now matrix ≡ labels.now) }
+    ensures order { IfOk result (λ matrix. order_of problem.now matrix ≡ order.now) }
 {
     let rows = laid_rows(alloc, problem, labels, order)?;
     Ok(Matrix::of(rows))

@@ -1,7 +1,9 @@
-use Rattle.std.proofs.Common.{All, sym, subst, ◌∙◌}
+use Rattle.std.proofs.Common.{All, sym, ap, subst, ◌∙◌}
 use Rattle.matrix_text.specs.Row.{RowInRange}
 use Rattle.matrix_text.specs.Placed.{Placed}
 use Rattle.matrix_text.proofs.LaidRows.{laid_in_range}
+use Rattle.matrix_text.specs.Frames.{grouping_of, order_of}
+use Rattle.matrix_text.proofs.LaidGrouping.{laid_grouping, laid_order}
 use Rattle.matrix_text.proofs.LaidPlaced.{laid_placed}
 use Rattle.matrix_text.proofs.layout.matrix_of.Goals as goal
 
@@ -10,3 +12,9 @@ of-requires c = subst (All RowInRange) (sym c.in_ok-rows.ensures.rows) (laid_in_
 
 pub returns-clause-placed : goal.returns-clause-placed
 returns-clause-placed c = subst (Placed c.args.problem.now) (sym (c.of.ensures ∙ c.in_ok-rows.ensures.rows)) (laid_placed c.args.problem.now c.args.labels.now c.args.order.now c.laid_rows.ensures.problem c.laid_rows.ensures.sorted c.requires.legal c.requires.order)
+
+pub returns-clause-grouping : goal.returns-clause-grouping
+returns-clause-grouping c = ap (grouping_of c.args.problem.now) (c.of.ensures ∙ c.in_ok-rows.ensures.rows) ∙ laid_grouping c.args.problem.now c.args.labels.now c.args.order.now c.laid_rows.ensures.problem c.laid_rows.ensures.sorted c.requires.legal c.requires.order
+
+pub returns-clause-order : goal.returns-clause-order
+returns-clause-order c = ap (order_of c.args.problem.now) (c.of.ensures ∙ c.in_ok-rows.ensures.rows) ∙ laid_order c.args.problem.now c.args.labels.now c.args.order.now c.laid_rows.ensures.problem c.laid_rows.ensures.sorted c.requires.legal c.requires.order
