@@ -14,19 +14,19 @@ goes_on kind total i parts rest part after all lt left h so_far =
     let one : parts_after kind total (total - i) parts rest ≡ parts_after kind total (total - (i + 1)) (parts ++ part ∷ []) after = rw (k, left, h) refl in
     sym one ∙ so_far
 
-pub ends : (e : ContainerFault) (kind : Header) (total i : ℕ) (parts : List Part) (rest : List ℕ) (all : Result (List Part) Refusal) → i < total → is_zeros rest ≡ false → Explains (refusal_of e) (part_at kind (total - length rest) parts rest)
-    → parts_after kind total (total - i) parts rest ≡ all → Explains (refusal_of e) all
-ends e kind total i parts rest all lt left h so_far =
-    let k : total - i ≡ suc (total - (i + 1)) = omega arith in
-    let one : parts_after kind total (total - i) parts rest ≡ (part_at kind (total - length rest) parts rest >>= λ x. parts_after kind total (total - (i + 1)) (parts ++ x.0 ∷ []) x.1) = rw (k, left) refl in
-    explained e _ _ all h (sym one ∙ so_far)
-
 explained : (e : ContainerFault) (first : Result (Part × List ℕ) Refusal) (next : Part × List ℕ → Result (List Part) Refusal) (all : Result (List Part) Refusal) → Explains (refusal_of e) first → (first >>= next) ≡ all → Explains (refusal_of e) all
 explained (fault.CutHeader at) first next all h so_far = sym so_far ∙ rw h refl
 explained (fault.ZeroId at) first next all h so_far = sym so_far ∙ rw h refl
 explained (fault.CutBody at) first next all h so_far = sym so_far ∙ rw h refl
 explained (fault.TwiceId id) first next all h so_far = sym so_far ∙ rw h refl
 explained fault.Memory first next all h so_far = tt
+
+pub ends : (e : ContainerFault) (kind : Header) (total i : ℕ) (parts : List Part) (rest : List ℕ) (all : Result (List Part) Refusal) → i < total → is_zeros rest ≡ false → Explains (refusal_of e) (part_at kind (total - length rest) parts rest)
+    → parts_after kind total (total - i) parts rest ≡ all → Explains (refusal_of e) all
+ends e kind total i parts rest all lt left h so_far =
+    let k : total - i ≡ suc (total - (i + 1)) = omega arith in
+    let one : parts_after kind total (total - i) parts rest ≡ (part_at kind (total - length rest) parts rest >>= λ x. parts_after kind total (total - (i + 1)) (parts ++ x.0 ∷ []) x.1) = rw (k, left) refl in
+    explained e _ _ all h (sym one ∙ so_far)
 
 pub are_zeros : (kind : Header) (total i : ℕ) (parts : List Part) (rest : List ℕ) (all : Result (List Part) Refusal) → i < total → is_zeros rest ≡ true → parts_after kind total (total - i) parts rest ≡ all → all ≡ Ok parts
 are_zeros kind total i parts rest all lt zeros so_far =
