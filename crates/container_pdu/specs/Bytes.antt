@@ -1,5 +1,5 @@
 -- Containers as AUTOSAR IpduM has them: parts one after another, each under a header.
-use Rattle.std.specs.Prelude.{◌≡◌, ◌≢◌, ◌≤◌, ◌<◌, ◌+◌, ◌-◌, ◌*◌, ◌^◌, ◌++◌, ℕ, Bool, List, [], ◌∷◌, length, sum, All, AllPairs, drop, nat_lt, if◌then◌else◌}
+use Rattle.std.specs.Prelude.{◌≡◌, ◌≢◌, ◌≤◌, ◌<◌, ◌+◌, ◌-◌, ◌*◌, ◌^◌, ◌++◌, ℕ, Bool, List, [], ◌∷◌, length, sum, All, AllPairs, drop, nat_lt, replicate, if◌then◌else◌}
 use Rattle.std.specs.List.{flat_map, list_all}
 use Rattle.std.specs.Int.{w32, to_be_bytes}
 use Rattle.container_pdu.specs.declared.header.Header.{Header}
@@ -48,11 +48,9 @@ part_text header part = header_text header part.id (length part.bytes) ++ part.b
 abbrev pub parts_text : Header → List Part → List ℕ
 parts_text header parts = flat_map (part_text header) parts
 
--- the bytes are those of the parts, and zeros up to the end
-pub record IsContainer (header : Header) (parts : List Part) (bytes : List ℕ) : Type 0 where
-  pub zeros : List ℕ
-  pub spelled : bytes ≡ parts_text header parts ++ zeros
-  pub are_zero : All (λ byte. byte ≡ 0) zeros
+-- so many bytes: those of the parts, and zeros
+abbrev pub container_text : Header → List Part → ℕ → List ℕ
+container_text header parts size = parts_text header parts ++ replicate (size - length (parts_text header parts)) 0
 
 -- parts that a container of so many bytes can have
 pub record Fits (header : Header) (parts : List Part) (size : ℕ) : Type 0 where

@@ -8,8 +8,10 @@ mod fault;
 mod header;
 mod part;
 mod reading;
+mod writing;
 
 pub use fault::ContainerFault;
 pub use header::{Header, container_bytes, header_kind};
 pub use part::Part;
 pub use reading::read_container;
+pub use writing::write_container;

@@ -1,6 +1,6 @@
 //! Reading a container.
 ghost use Rattle.std.specs.Prelude.{◌≡◌, ◌≢◌, ◌≤◌, length, slice_index, IfOk};
-ghost use Rattle.container_pdu.specs.Bytes.{header_bytes};
+ghost use Rattle.container_pdu.specs.Bytes.{container_text, header_bytes};
 ghost use Rattle.container_pdu.specs.Reading.{Gives, has_id, id_in, is_zeros, length_in, part_at, parts_of};
 ghost use Rattle.container_pdu.specs.declared.header.Header.TheVariants.{NoHeader};
 
@@ -89,6 +89,8 @@ pub fn read_container(
     requires { header ≢ NoHeader }
     // The parts of the bytes, or the first refusal.
     ensures exact { Gives (λ v. v.items) result (parts_of header payload.now) }
+    // The bytes are those of the parts with their headers, and zeros.
+    ensures spelled { IfOk result (λ v. payload.now ≡ container_text header v.items (length payload.now)) }
 {
     read_parts(alloc, payload, header)
 }
