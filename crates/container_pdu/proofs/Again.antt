@@ -2,7 +2,7 @@
 use Rattle.std.proofs.Common.{◌≡◌, ◌≢◌, ℕ, zero, suc, ◌+◌, ◌-◌, ◌<◌, ◌≤◌, inl, inr, Bool, true, false, cond, nat_eq, nat_lt, List, [], ◌∷◌, ◌++◌, length, get_or, take, drop, replicate, Result, Ok, Err, refl, sym, ap, subst, ◌∙◌, append_assoc, arith}
 use Rattle.std.specs.Prelude.{All, AllPairs}
 use Rattle.std.proofs.lemmas.Bool.{le-ltb, eqb-true, eqb-false}
-use Rattle.std.proofs.lemmas.List.{append-nil, take_at, drop_at, length-append, get_or-append_left, get_or-append_right}
+use Rattle.std.proofs.lemmas.List.{append-nil, take_at, drop_at, length-append, get_or_append_left, get_or-append_right}
 use Rattle.std.proofs.lemmas.List.Elements.{All-head, All-tail}
 use Rattle.std.proofs.lemmas.List.Folds.{list_any_none}
 use Rattle.container_pdu.specs.declared.header.Header.{Header}
@@ -76,24 +76,24 @@ not_zeros kind part rest is =
 is_fresh : (earlier : List Part) (part : Part) (more : List Part) → AllPairs (λ p q. p.id ≢ q.id) (earlier ++ part ∷ more) → has_id part.id earlier ≡ false
 is_fresh earlier part more apart =
     list_any_none (λ p. nat_eq p.id part.id) earlier (λ k d lt.
-    let at : get_or (earlier ++ part ∷ more) k d ≡ get_or earlier k d = get_or-append_left earlier (part ∷ more) k d lt in
+    let at : get_or (earlier ++ part ∷ more) k d ≡ get_or earlier k d = get_or_append_left earlier (part ∷ more) d k lt in
     let here : get_or (earlier ++ part ∷ more) (length earlier) d ≡ part = rw (get_or-append_right earlier (part ∷ more) (length earlier) (length earlier) d refl (omega arith), zero_left (length earlier)) refl in
     let ne = apart k (length earlier) d lt (omega (arith, length-append earlier (part ∷ more))) in
     differ (get_or earlier k d).id part.id (λ e. ne (ap (λ (p : Part). p.id) at ∙ e ∙ sym (ap (λ (p : Part). p.id) here))))
 
-parts_again : (kind : Header) (total steps : ℕ) (earlier more : List Part) (zeros : ℕ) → All (IsPart kind) more → AllPairs (λ p q. p.id ≢ q.id) (earlier ++ more) → length more ≤ steps
-    → parts_after kind total steps earlier (parts_text kind more ++ replicate zeros 0) ≡ Ok (earlier ++ more)
-parts_again kind total zero earlier [] zeros are apart few = ap (λ (ps : List Part). Ok ps) (sym (append-nil earlier))
-parts_again kind total zero earlier (part ∷ more) zeros are apart few = absurd (omega arith)
-parts_again kind total (suc steps) earlier [] zeros are apart few = rw (is_zeros-replicate zeros) (ap (λ (ps : List Part). Ok ps) (sym (append-nil earlier)))
-parts_again kind total (suc steps) earlier (part ∷ more) zeros are apart few =
-    let rest = parts_text kind more ++ replicate zeros 0 in
+parts_again : (kind : Header) (total steps : ℕ) (earlier more : List Part) (count : ℕ) → All (IsPart kind) more → AllPairs (λ p q. p.id ≢ q.id) (earlier ++ more) → length more ≤ steps
+    → parts_after kind total steps earlier (parts_text kind more ++ replicate count 0) ≡ Ok (earlier ++ more)
+parts_again kind total zero earlier [] count are apart few = ap (λ (ps : List Part). Ok ps) (sym (append-nil earlier))
+parts_again kind total zero earlier (part ∷ more) count are apart few = absurd (omega arith)
+parts_again kind total (suc steps) earlier [] count are apart few = rw (is_zeros-replicate count) (ap (λ (ps : List Part). Ok ps) (sym (append-nil earlier)))
+parts_again kind total (suc steps) earlier (part ∷ more) count are apart few =
+    let rest = parts_text kind more ++ replicate count 0 in
     let is = All-head (IsPart kind) part more are in
-    let split : parts_text kind (part ∷ more) ++ replicate zeros 0 ≡ part_text kind part ++ (parts_text kind more ++ replicate zeros 0) = append_assoc (part_text kind part) (parts_text kind more) (replicate zeros 0) in
+    let split : parts_text kind (part ∷ more) ++ replicate count 0 ≡ part_text kind part ++ (parts_text kind more ++ replicate count 0) = append_assoc (part_text kind part) (parts_text kind more) (replicate count 0) in
     let grouped : (earlier ++ part ∷ []) ++ more ≡ earlier ++ part ∷ more = append_assoc earlier (part ∷ []) more in
-    let next = parts_again kind total steps (earlier ++ part ∷ []) more zeros (All-tail (IsPart kind) part more are) (subst (AllPairs (λ (p : Part) (q : Part). p.id ≢ q.id)) (sym grouped) apart) (omega arith) in
+    let next = parts_again kind total steps (earlier ++ part ∷ []) more count (All-tail (IsPart kind) part more are) (subst (AllPairs (λ (p : Part) (q : Part). p.id ≢ q.id)) (sym grouped) apart) (omega arith) in
     ap (parts_after kind total (suc steps) earlier) split
-    ∙ rw (not_zeros kind part (parts_text kind more ++ replicate zeros 0) is, part_again kind (total - length (part_text kind part ++ (parts_text kind more ++ replicate zeros 0))) earlier part (parts_text kind more ++ replicate zeros 0) is (is_fresh earlier part more apart)) next
+    ∙ rw (not_zeros kind part (parts_text kind more ++ replicate count 0) is, part_again kind (total - length (part_text kind part ++ (parts_text kind more ++ replicate count 0))) earlier part (parts_text kind more ++ replicate count 0) is (is_fresh earlier part more apart)) next
     ∙ ap (λ (ps : List Part). Ok ps) grouped
 
 -- there are no more parts than bytes

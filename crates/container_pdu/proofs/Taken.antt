@@ -54,7 +54,7 @@ part_taken kind at earlier bytes x fits e =
     let len : length (take (length_in kind bytes) (drop (header_bytes kind) bytes)) ≡ length_in kind bytes = length-take-le _ _ body in
     let head = header_taken kind bytes fits long in
     let joined : bytes ≡ (header_text kind (id_in kind bytes) (length_in kind bytes) ++ take (length_in kind bytes) (drop (header_bytes kind) bytes)) ++ drop (length_in kind bytes) (drop (header_bytes kind) bytes) =
-    sym (append_assoc _ _ _
+    sym (append_assoc (header_text kind (id_in kind bytes) (length_in kind bytes)) (take (length_in kind bytes) (drop (header_bytes kind) bytes)) (drop (length_in kind bytes) (drop (header_bytes kind) bytes))
     ∙ ap (λ (t : List ℕ). header_text kind (id_in kind bytes) (length_in kind bytes) ++ t) (take-append-drop (length_in kind bytes) (drop (header_bytes kind) bytes))
     ∙ ap (λ (t : List ℕ). t ++ drop (header_bytes kind) bytes) head
     ∙ take-append-drop (header_bytes kind) bytes) in

@@ -51,6 +51,13 @@ pub fn write_container(
     // `read_container` of the bytes gives the same parts.
     ensures reads_back { IfOk result (λ v. parts_of header v.items ≡ Ok parts.now) }
 {
+    container_of(alloc, header, parts, size)
+}
+
+fn container_of(alloc: Global, header: Header, parts: &[Part], size: u32) -> Result<Vec<u8>, Memory>
+    requires { Fits header parts.now size }
+    ensures { IfOk result (λ v. v.items ≡ container_text header parts.now size) }
+{
     let mut out = Vec::new(alloc);
     for part in parts {
         put_part(&mut out, header, part)?;
