@@ -73,6 +73,15 @@ record Spells (kind : Header) (earlier : List Part) (bytes : List ℕ) (all : Li
   pub all_is : all ≡ earlier ++ more
   pub bytes_is : bytes ≡ parts_text kind more ++ replicate zeros 0
 
+-- one part more
+spells_more : (kind : Header) (earlier : List Part) (bytes : List ℕ) (all : List Part) (x : Part × List ℕ) → Takes kind bytes x → Spells kind (earlier ++ x.0 ∷ []) x.1 all → Spells kind earlier bytes all
+spells_more kind earlier bytes all x t r = record {
+  more = x.0 ∷ r.more;
+  zeros = r.zeros;
+  all_is = r.all_is ∙ append_assoc earlier (x.0 ∷ []) r.more;
+  bytes_is = t.parts ∙ ap (λ (t : List ℕ). part_text kind x.0 ++ t) r.bytes_is ∙ sym (append_assoc (part_text kind x.0) (parts_text kind r.more) (replicate r.zeros 0));
+}
+
 parts_taken : (kind : Header) (total steps : ℕ) (earlier : List Part) (bytes : List ℕ) (all : List Part) → length bytes ≤ steps → IsBytes bytes → parts_after kind total steps earlier bytes ≡ Ok all → Spells kind earlier bytes all
 parts_taken kind total zero earlier bytes all few fits e = record {
   more = [];
@@ -92,18 +101,13 @@ parts_taken kind total (suc steps) earlier bytes all few fits e =
           let b = bind_ok (part_at kind (total - length bytes) earlier bytes) (λ x. parts_after kind total steps (earlier ++ x.0 ∷ []) x.1) all (rw left at e) in
           let t = part_taken kind (total - length bytes) earlier bytes b.0 fits b.1 in
           let r = parts_taken kind total steps (earlier ++ b.0.0 ∷ []) b.0.1 all (omega (arith, t.shorter)) t.fits b.2 in
-          record {
-            more = b.0.0 ∷ r.more;
-            zeros = r.zeros;
-            all_is = r.all_is ∙ append_assoc earlier (b.0.0 ∷ []) r.more;
-            bytes_is = t.parts ∙ ap (λ (t : List ℕ). part_text kind b.0.0 ++ t) r.bytes_is ∙ sym (append_assoc (part_text kind b.0.0) (parts_text kind r.more) (replicate r.zeros 0));
-          }
+          spells_more kind earlier bytes all b.0 t r
     ]
 
 pub all_taken : (kind : Header) (bytes : List ℕ) (all : List Part) → IsBytes bytes → parts_of kind bytes ≡ Ok all → bytes ≡ container_text kind all (length bytes)
 all_taken kind bytes all fits e =
     let r = parts_taken kind (length bytes) (length bytes) [] bytes all (omega arith) fits e in
-    let z : r.zeros ≡ length bytes - length (parts_text kind r.more) = omega (arith, ap length r.bytes_is, length-append (parts_text kind r.more) (replicate r.zeros 0), length-replicate r.zeros 0) in
+    let z : r.zeros ≡ length bytes - length (parts_text kind r.more) = omega (arith, ap length r.bytes_is, length-append (parts_text kind r.more) (replicate r.zeros 0), length-replicate {A = ℕ} r.zeros 0) in
     r.bytes_is
     ∙ ap (λ (k : ℕ). parts_text kind r.more ++ replicate k 0) z
     ∙ ap (λ (ps : List Part). parts_text kind ps ++ replicate (length bytes - length (parts_text kind ps)) 0) (sym r.all_is)
