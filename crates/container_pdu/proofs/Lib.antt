@@ -1,0 +1,4 @@
+pub mod Loop
+pub mod Headers
+pub mod Taken
+pub mod Again
