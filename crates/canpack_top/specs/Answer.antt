@@ -43,6 +43,11 @@ abbrev pub OnePlaceEach : Files → Command → Type 0
 OnePlaceEach files (check names) = HasOnePlace names files
 OnePlaceEach files (plan names branches) = ⊤
 
+-- `check` accepts the four files
+abbrev pub AcceptedAfter : Files → Command → Type 0
+AcceptedAfter files (check names) = Accepts names files
+AcceptedAfter files (plan names branches) = Accepts names files
+
 -- `check` finds that the texts stand and the matrix isn't placed
 abbrev pub Rejected : Files → Command → Type 0
 Rejected files (check names) = Rejects names files

@@ -2,7 +2,10 @@
 ghost use Rattle.std.specs.Prelude.{◌≡◌, ◌⊎◌, IsTrue, Err, IsErrOf, IsErr, IsSome, IsOk, IfOk, OnOk, OnErr};
 ghost use Rattle.pack_base.specs.Outside.{Later};
 ghost use Rattle.canpack_top.specs.declared.line.Role.{Role as GivenRole};
-ghost use Rattle.canpack_top.specs.Check.{problem_at};
+ghost use Rattle.matrix_text.specs.LaidOut.{rows_one_each};
+ghost use Rattle.matrix_text.specs.MatrixText.{MatrixText};
+ghost use Rattle.matrix_text.specs.Placed.{Placed};
+ghost use Rattle.canpack_top.specs.Check.{Accepts, problem_at};
 ghost use Rattle.canpack_top.specs.Command.{are_names, names_of};
 ghost use Rattle.canpack_top.specs.Plan.{IsPartPlanned, IsPlanned, planned_text};
 ghost use Rattle.canpack_top.specs.Reads.{ProblemFaults};
@@ -21,7 +24,9 @@ use std::alloc::Global;
 /// The text of the matrix in which each item has a frame of its own.
 #[tactic(auto, unfolding(crate::specs::Plan::planned_text))]
 fn planned_text(alloc: Global, problem: &Problem) -> Result<Vec<u8>, Memory>
-    ensures { IfOk result (λ text. text.items ≡ planned_text problem.now) }
+    ensures text { IfOk result (λ text. text.items ≡ planned_text problem.now) }
+    ensures reads { IfOk result (λ text. MatrixText text.items (rows_one_each problem.now)) }
+    ensures placed { OnOk result (Placed problem.now (rows_one_each problem.now)) }
 {
     let matrix = one_frame_each(alloc, problem)?;
     write_matrix(alloc, &matrix)
@@ -43,6 +48,9 @@ pub fn plan<F: Folder>(alloc: Global, folder: &mut F, names: Names<'_>) -> Resul
         → ProblemFaults (names_of names.entry) (F.read_faults folder.old) (F.read_faults folder.new) }
     ensures write_fault { IsErrOf result Stop.WriteFault
         → WriteFaults names.entry.matrix.now names.entry.cert.now (F.write_faults folder.old) (F.write_faults folder.new) }
+
+    // `check` accepts what was written.
+    ensures accepted { OnOk result (IsSome (F.files folder.old) → Accepts (names_of names.entry) (F.files folder.new)) }
 
     // The files after an error.
     ensures part { IsErrOf result Stop.WriteFault → IsSome (F.files folder.old)

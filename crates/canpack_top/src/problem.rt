@@ -1,5 +1,5 @@
 //! The problem of two files.
-ghost use Rattle.std.specs.Prelude.{◌≡◌, IsSome, IsErrOf, All};
+ghost use Rattle.std.specs.Prelude.{◌≡◌, IfOk, IsSome, IsErrOf, All};
 ghost use Rattle.pack_model.specs.Network.{NetworkStands};
 ghost use Rattle.pack_model.specs.Signal.{IsFree, SignalStands};
 ghost use Rattle.canpack_top.specs.Check.{problem_at, problem_in};
@@ -20,7 +20,8 @@ fn problem_in(alloc: Global, network: Network, signals: Vec<Signal>) -> Result<P
     requires network { NetworkStands network }
     requires signals { All SignalStands signals.items }
     requires free { All IsFree signals.items }
-    ensures { Says (λ problem. problem) result (problem_in network signals.items) }
+    ensures exact { Says (λ problem. problem) result (problem_in network signals.items) }
+    ensures free { IfOk result (λ problem. All IsFree problem.signals) }
 {
     match problem_of(alloc, network, signals) {
         Ok(problem) => Ok(problem),
@@ -38,6 +39,7 @@ pub fn read_problem<F: Folder>(
 ) -> Result<Problem, Stop>
     ensures exact { IsSome (F.files folder.old)
         → Gives (λ problem. problem) result (problem_at (names_of names.entry) (F.files folder.old)) }
+    ensures free { IfOk result (λ problem. All IsFree problem.signals) }
     ensures read_fault { IsErrOf result Stop.ReadFault
         → ProblemFaults (names_of names.entry) (F.read_faults folder.old) (F.read_faults folder.new) }
     ensures reads { IsErrOf result Stop.WriteFault → ⊥ }

@@ -4,6 +4,7 @@ ghost use Rattle.pack_base.specs.Outside.{Later};
 ghost use Rattle.canpack_top.specs.declared.ending.Verdict.TheVariants as verdict;
 ghost use Rattle.canpack_top.specs.Answer.{
   Accepted,
+  AcceptedAfter,
   IsAnswer,
   IsCheck,
   IsRefusal,
@@ -37,6 +38,7 @@ pub fn run<F: Folder>(alloc: Global, folder: &mut F, command: Command<'_>) -> Re
         → IsRefusal result ⊎ IsStopped result }
 
     ensures one_place { IsSome (F.files folder.old) → result ≡ Ok verdict.Placed → OnePlaceEach (F.files folder.old) (seen command.entry) }
+    ensures accepted_after { IsSome (F.files folder.old) → result ≡ Ok verdict.Placed → AcceptedAfter (F.files folder.new) (seen command.entry) }
     ensures read_fault { IsErrOf result Stop.ReadFault
         → ReadFaultsRose (F.read_faults folder.old) (F.read_faults folder.new) (seen command.entry) }
     ensures write_fault { IsErrOf result Stop.WriteFault

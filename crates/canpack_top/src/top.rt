@@ -5,6 +5,7 @@ ghost use Rattle.pack_base.specs.Outside.{Later, SaidPart, and_said};
 ghost use Rattle.canpack_top.specs.declared.line.Role.{Role};
 ghost use Rattle.canpack_top.specs.Answer.{
   Accepted,
+  AcceptedAfter,
   Done,
   IsCheck,
   IsExcused,
@@ -81,6 +82,7 @@ pub fn canpack<R: Threads, F: Folder, O: Sink, G: Gate + Sync>(
 
     // The files that are left.
     ensures done { result ≡ 0 → IsSome (F.files folder.old) → OfCommand words.now (Done (F.files folder.old) (F.files folder.new)) }
+    ensures accepted_after { result ≡ 0 → IsSome (F.files folder.old) → OfCommand words.now (AcceptedAfter (F.files folder.new)) }
     ensures part_done { result ≡ 3 → IsSome (F.files folder.old) → OfCommand words.now (PartDone (F.files folder.old) (F.files folder.new)) }
     ensures same { LeavesFiles result → F.files folder.new ≡ F.files folder.old }
     ensures check { OfCommand words.now IsCheck → F.files folder.new ≡ F.files folder.old }

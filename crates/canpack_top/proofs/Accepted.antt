@@ -1,0 +1,77 @@
+-- What is planned and written is accepted.
+use Rattle.std.proofs.Common.{◌≡◌, ◌≢◌, ◌≤◌, ℕ, true, false, List, [], length, get_or, All, Option, None, Some, Ok, IsSome, refl, ap, subst, ◌∙◌}
+use Rattle.std.specs.Prelude.{◌&&◌, is_none, unwrap_or, Any, nat_lt}
+use Rattle.std.proofs.lemmas.Bool.{le-ltb}
+use Rattle.std.proofs.lemmas.List.Sums.{list_all-from_AllPass}
+use Rattle.csv_table.specs.Columns.{◌>>=◌}
+use Rattle.pack_base.specs.Outside.{Files, file_at}
+use Rattle.pack_model.specs.Problem.{Parts}
+use Rattle.pack_model.specs.Signal.{IsFree}
+use Rattle.matrix_text.specs.declared.matrix.Header.TheVariants.{NoHeader}
+use Rattle.matrix_text.specs.declared.matrix.MatrixRow.{MatrixRow}
+use Rattle.matrix_text.specs.MatrixText.{MatrixText, matrix_text}
+use Rattle.matrix_text.specs.Placed.{Placed, RowOf}
+use Rattle.canpack_top.specs.declared.line.Role.TheVariants as role
+use Rattle.canpack_top.specs.Check.{Accepts, cert_at, matrix_at, network_at, problem_at, signals_at, size_limit, text_limit, texts_at}
+use Rattle.canpack_top.specs.Command.{Names}
+use Rattle.canpack_top.specs.Text.{are_plain, cert_in, has_mark, is_no_header, matrix_in, network_in, placed_cert, signals_in, within}
+use Rattle.canpack_top.specs.Write.{Written}
+
+-- the text of a matrix begins with its header, and no byte order mark
+no_mark : (rows : List MatrixRow) → has_mark (matrix_text rows) ≡ false
+no_mark rows = refl
+
+-- the rows of a placed matrix have no headers and no I-PDUs
+plain_rows : (p : Parts) (rows : List MatrixRow) → All IsFree p.signals → Placed p rows → are_plain rows ≡ true
+plain_rows p rows free placed = list_all-from_AllPass _ rows (λ k d lt. plain_row (get_or rows k d) (placed.header_kind k d lt) (no_pdu (get_or rows k d) (placed.one_row.no_other k d lt)))
+  where
+    plain_row : (row : MatrixRow) → row.header ≡ NoHeader → row.pdu ≡ None → (is_no_header row.header && is_none row.pdu) ≡ true
+    plain_row row no_header no_pdu = rw (no_header, no_pdu) refl
+
+    no_pdu : (row : MatrixRow) → Any (λ signal. RowOf signal row) p.signals → row.pdu ≡ None
+    no_pdu row (k, signal, lt, place, of) = of.pdu ∙ subst IsFree place (free k signal lt)
+
+-- the matrix of a written text
+pub written_matrix : (p : Parts) (rows : List MatrixRow) (text : List ℕ) → All IsFree p.signals → Placed p rows → text ≡ matrix_text rows → MatrixText text rows → matrix_in text ≡ Ok rows
+unfolding matrix_in
+written_matrix p rows text free placed is reads =
+    let mark : has_mark text ≡ false = ap has_mark is ∙ no_mark rows in
+    rw (mark, reads, plain_rows p rows free placed) refl
+
+-- a file that is as it was says what it said
+same_network : (before now : Files) (name : List ℕ) → file_at now name ≡ file_at before name → network_at now name ≡ network_at before name
+unfolding network_at
+same_network before now name same = ap (λ (file : Option (List ℕ)). within text_limit role.Network (unwrap_or file []) >>= network_in) same
+
+same_signals : (before now : Files) (name : List ℕ) → file_at now name ≡ file_at before name → signals_at now name ≡ signals_at before name
+unfolding signals_at
+same_signals before now name same = ap (λ (file : Option (List ℕ)). within text_limit role.Signals (unwrap_or file []) >>= signals_in) same
+
+same_problem : (names : Names) (before now : Files) → file_at now names.network ≡ file_at before names.network → file_at now names.signals ≡ file_at before names.signals → problem_at names now ≡ problem_at names before
+unfolding problem_at
+same_problem names before now network signals = rw (same_network before now names.network network, same_signals before now names.signals signals) refl
+
+-- a file with this text has this matrix
+file_matrix : (files : Files) (name text : List ℕ) (rows : List MatrixRow) → file_at files name ≡ Some text → length text ≤ size_limit → matrix_in text ≡ Ok rows → matrix_at files name ≡ Ok rows
+unfolding matrix_at
+file_matrix files name text rows holds small reads =
+    let fits : nat_lt size_limit (length text) ≡ false = le-ltb size_limit (length text) small in
+    rw (holds, fits) reads
+
+-- a file with this text is the certificate of kind `placed`
+file_cert : (files : Files) (name : List ℕ) → file_at files name ≡ Some placed_cert → cert_at files name ≡ Ok tt
+unfolding cert_at cert_in
+file_cert files name holds = rw holds refl
+
+-- the four files are accepted after the two were written
+pub written_accepted : (names : Names) (before now : Files) (p : Parts) (rows : List MatrixRow) (text : List ℕ)
+    → IsSome before → Written names.matrix names.cert text placed_cert before now → problem_at names before ≡ Ok p
+    → names.network ≢ names.matrix → names.network ≢ names.cert → names.signals ≢ names.matrix → names.signals ≢ names.cert
+    → length text ≤ size_limit → matrix_in text ≡ Ok rows → Placed p rows → Accepts names now
+unfolding texts_at
+written_accepted names before now p rows text told written stands nm nc sm sc small reads placed =
+    let problem : problem_at names now ≡ Ok p =
+    same_problem names before now (written.others told names.network nm nc) (written.others told names.signals sm sc) ∙ stands in
+    let matrix : matrix_at now names.matrix ≡ Ok rows = file_matrix now names.matrix text rows (written.first_whole told) small reads in
+    let cert : cert_at now names.cert ≡ Ok tt = file_cert now names.cert (written.second_whole told) in
+    rw (problem, matrix, cert) placed
