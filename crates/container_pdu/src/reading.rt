@@ -5,7 +5,7 @@ ghost use Rattle.container_pdu.specs.Reading.{Gives, has_id, id_in, is_zeros, le
 ghost use Rattle.container_pdu.specs.declared.header.Header.TheVariants.{NoHeader};
 
 use crate::fault::ContainerFault;
-use crate::header::{Header, length_of};
+use crate::header::Header;
 use crate::part::Part;
 use pack_model::Payload;
 use std::alloc::Global;
@@ -59,7 +59,7 @@ fn read_part<'a>(
     ensures exact { Gives (λ x. (x.0, x.1.now)) result (part_at header at earlier.now bytes.now) }
     ensures shorter { IfOk result (λ x. length x.1.now ≤ length bytes.now) }
 {
-    let header_length = length_of(header) as usize;
+    let header_length = header.bytes() as usize;
     if bytes.len() < header_length {
         return Err(ContainerFault::CutHeader(at));
     }
