@@ -1,8 +1,9 @@
 //! Reading a container.
-ghost use Rattle.std.specs.Prelude.{◌≡◌, ◌≢◌, ◌≤◌, length, slice_index, IfOk};
-ghost use Rattle.container_pdu.specs.Bytes.{container_text, header_bytes};
+ghost use Rattle.std.specs.Prelude.{◌≡◌, ◌≢◌, ◌≤◌, ℕ, List, length, IfOk, Ok};
+ghost use Rattle.container_pdu.specs.Bytes.{Fits, container_text, header_bytes};
 ghost use Rattle.container_pdu.specs.Reading.{Gives, has_id, id_in, is_zeros, length_in, part_at, parts_of};
 ghost use Rattle.container_pdu.specs.declared.header.Header.TheVariants.{NoHeader};
+ghost use Rattle.container_pdu.specs.declared.part.Part.{Part};
 
 use crate::fault::ContainerFault;
 use crate::header::Header;
@@ -91,6 +92,9 @@ pub fn read_container(
     ensures exact { Gives (λ v. v.items) result (parts_of header payload.now) }
     // The bytes are those of the parts with their headers, and zeros.
     ensures spelled { IfOk result (λ v. payload.now ≡ container_text header v.items (length payload.now)) }
+    // What is written for parts that fit is read as these parts.
+    ensures only { (parts : List Part) (size : ℕ) → Fits header parts size
+        → payload.now ≡ container_text header parts size → Gives (λ v. v.items) result (Ok parts) }
 {
     read_parts(alloc, payload, header)
 }
