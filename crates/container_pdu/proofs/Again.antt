@@ -13,7 +13,7 @@ use Rattle.container_pdu.specs.Reading.{has_id, is_zeros, part_at, parts_after, 
 use Rattle.container_pdu.proofs.Headers.{two, is_zeros-replicate, id_of_zeros, header_len, some_bytes, id_again, length_again}
 
 -- a part that has a header of its kind
-record IsPart (kind : Header) (part : Part) : Type 0 where
+pub record IsPart (kind : Header) (part : Part) : Type 0 where
   pub some_id : 1 ≤ part.id
   pub id : part.id < id_limit kind
   pub count : length part.bytes < length_limit kind

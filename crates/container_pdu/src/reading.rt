@@ -1,6 +1,6 @@
 //! Reading a container.
 ghost use Rattle.std.specs.Prelude.{◌≡◌, ◌≢◌, ◌≤◌, ℕ, List, length, IfOk, Ok};
-ghost use Rattle.container_pdu.specs.Bytes.{Fits, container_text, header_bytes};
+ghost use Rattle.container_pdu.specs.Bytes.{IsContainer, header_bytes};
 ghost use Rattle.container_pdu.specs.Reading.{Gives, has_id, id_in, is_zeros, length_in, part_at, parts_of};
 ghost use Rattle.container_pdu.specs.declared.header.Header.TheVariants.{NoHeader};
 ghost use Rattle.container_pdu.specs.declared.part.Part.{Part};
@@ -91,10 +91,9 @@ pub fn read_container(
     // The parts of the bytes, or the first refusal.
     ensures exact { Gives (λ v. v.items) result (parts_of header payload.now) }
     // The bytes are those of the parts with their headers, and zeros.
-    ensures spelled { IfOk result (λ v. payload.now ≡ container_text header v.items (length payload.now)) }
-    // What is written for parts that fit is read as these parts.
-    ensures only { (parts : List Part) (size : ℕ) → Fits header parts size
-        → payload.now ≡ container_text header parts size → Gives (λ v. v.items) result (Ok parts) }
+    ensures found { IfOk result (λ v. IsContainer header v.items payload.now) }
+    // Parts whose bytes with their headers and zeros these are, are read, unless memory runs out.
+    ensures only { (parts : List Part) → IsContainer header parts payload.now → Gives (λ v. v.items) result (Ok parts) }
 {
     read_parts(alloc, payload, header)
 }
