@@ -1,7 +1,7 @@
 -- What is written is read again.
-use Rattle.std.proofs.Common.{◌≡◌, ◌≢◌, ℕ, zero, suc, ◌+◌, ◌-◌, ◌<◌, ◌≤◌, inl, inr, Bool, true, false, cond, nat_eq, nat_lt, List, [], ◌∷◌, ◌++◌, length, get_or, take, drop, replicate, Result, Ok, Err, refl, sym, ap, subst, ◌∙◌, append_assoc, arith}
+use Rattle.std.proofs.Common.{◌≡◌, ◌≢◌, ℕ, zero, suc, ◌-◌, ◌<◌, ◌≤◌, inl, inr, false, nat_eq, nat_lt, List, [], ◌∷◌, ◌++◌, length, get_or, replicate, Ok, refl, sym, ap, subst, ◌∙◌, append_assoc, arith}
 use Rattle.std.specs.Prelude.{All, AllPairs}
-use Rattle.std.proofs.lemmas.Bool.{le-ltb, eqb-true, eqb-false}
+use Rattle.std.proofs.lemmas.Bool.{le-ltb, eqb-true}
 use Rattle.std.proofs.lemmas.List.{append-nil, take_at, drop_at, length-append, get_or_append_left, get_or-append_right}
 use Rattle.std.proofs.lemmas.List.Elements.{All-head, All-tail}
 use Rattle.std.proofs.lemmas.List.Folds.{list_any_none}
@@ -9,11 +9,11 @@ use Rattle.container_pdu.specs.declared.header.Header.{Header}
 use Rattle.container_pdu.specs.declared.header.Header.TheVariants.{NoHeader}
 use Rattle.container_pdu.specs.declared.part.Part.{Part}
 use Rattle.container_pdu.specs.Bytes.{Fits, container_text, header_bytes, header_text, id_limit, length_limit, part_text, parts_text}
-use Rattle.container_pdu.specs.Reading.{Refusal, ◌>>=◌, has_id, id_in, is_zeros, length_in, part_at, parts_after, parts_of}
+use Rattle.container_pdu.specs.Reading.{has_id, is_zeros, part_at, parts_after, parts_of}
 use Rattle.container_pdu.proofs.Headers.{two, is_zeros-replicate, id_of_zeros, header_len, some_bytes, id_again, length_again}
 
 -- a part that has a header of its kind
-record IsPart (kind : Header) (part : Part) : Type 0 where
+pub record IsPart (kind : Header) (part : Part) : Type 0 where
   pub some_id : 1 ≤ part.id
   pub id : part.id < id_limit kind
   pub count : length part.bytes < length_limit kind

@@ -2,3 +2,4 @@ pub mod Loop
 pub mod Headers
 pub mod Taken
 pub mod Again
+pub mod Standing

@@ -1,44 +1,41 @@
 -- What is read is the parts' headers and bytes, and zeros.
-use Rattle.std.proofs.Common.{◌≡◌, ℕ, zero, suc, ◌+◌, ◌-◌, ◌<◌, ◌≤◌, inl, inr, Bool, true, false, cond, nat_eq, nat_lt, List, [], ◌∷◌, ◌++◌, length, take, drop, replicate, Result, Ok, Err, refl, sym, ap, subst, ◌∙◌, append_assoc, arith}
-use Rattle.std.specs.Prelude.{IfOk}
-use Rattle.std.specs.Global.{Vec}
+use Rattle.std.proofs.Common.{◌≡◌, ℕ, zero, suc, ◌-◌, ◌<◌, ◌≤◌, inl, inr, Bool, true, false, cond, nat_eq, nat_lt, List, [], ◌∷◌, ◌++◌, length, take, drop, replicate, Result, Ok, Err, refl, sym, ap, subst, ◌∙◌, append_assoc, arith}
 use Rattle.std.proofs.lemmas.Bool.{ltb-false}
 use Rattle.std.proofs.lemmas.List.{append-nil, nil_from_length, take-append-drop, length-take-le, length-drop, length-append, length-replicate}
 use Rattle.container_pdu.specs.declared.header.Header.{Header}
 use Rattle.container_pdu.specs.declared.header.Header.TheVariants.{NoHeader, Short, Long}
 use Rattle.container_pdu.specs.declared.part.Part.{Part}
-use Rattle.container_pdu.specs.declared.fault.ContainerFault.{ContainerFault}
 use Rattle.container_pdu.specs.Bytes.{container_text, header_bytes, header_text, part_text, parts_text}
-use Rattle.container_pdu.specs.Reading.{Refusal, cut_header, zero_id, cut_body, twice_id, ◌>>=◌, Gives, after_header, has_id, id_in, is_zeros, length_in, part_at, parts_after, parts_of}
+use Rattle.container_pdu.specs.Reading.{Refusal, cut_header, zero_id, cut_body, twice_id, ◌>>=◌, after_header, has_id, id_in, is_zeros, length_in, part_at, parts_after, parts_of}
 use Rattle.container_pdu.proofs.Headers.{IsBytes, IsBytes-drop, two, zeros_are, header_taken}
 
-bind_ok : {A B : Type 0} (r : Result A Refusal) (f : A → Result B Refusal) (y : B) → (r >>= f) ≡ Ok y → (x : A) × (r ≡ Ok x) × (f x ≡ Ok y)
+pub bind_ok : {A B : Type 0} (r : Result A Refusal) (f : A → Result B Refusal) (y : B) → (r >>= f) ≡ Ok y → (x : A) × (r ≡ Ok x) × (f x ≡ Ok y)
 bind_ok (Ok x) f y e = (x, refl, e)
 bind_ok (Err d) f y e = absurd cc
 
-guard_ok : {A : Type 0} (b : Bool) (d : Refusal) (r : Result A Refusal) (y : A) → cond b (Err d) r ≡ Ok y → (b ≡ false) × (r ≡ Ok y)
+pub guard_ok : {A : Type 0} (b : Bool) (d : Refusal) (r : Result A Refusal) (y : A) → cond b (Err d) r ≡ Ok y → (b ≡ false) × (r ≡ Ok y)
 guard_ok true d r y e = absurd cc
 guard_ok false d r y e = (refl, e)
 
-abbrev done : {A : Type 0} → A → Result A Refusal
+abbrev pub done : {A : Type 0} → A → Result A Refusal
 done x = Ok x
 
-ok_is : {A : Type 0} (x y : A) → done x ≡ done y → x ≡ y
+pub ok_is : {A : Type 0} (x y : A) → done x ≡ done y → x ≡ y
 ok_is x y e = cc
 
 -- a header whose id isn't 0 has bytes
-has_bytes : (kind : Header) (bytes : List ℕ) → nat_eq (id_in kind bytes) 0 ≡ false → 4 ≤ header_bytes kind
+pub has_bytes : (kind : Header) (bytes : List ℕ) → nat_eq (id_in kind bytes) 0 ≡ false → 4 ≤ header_bytes kind
 has_bytes NoHeader bytes e = absurd cc
 has_bytes Short bytes e = omega arith
 has_bytes Long bytes e = omega arith
 
 -- what a part took from the front
-record Takes (kind : Header) (bytes : List ℕ) (x : Part × List ℕ) : Type 0 where
+pub record Takes (kind : Header) (bytes : List ℕ) (x : Part × List ℕ) : Type 0 where
   pub parts : bytes ≡ part_text kind x.0 ++ x.1
   pub fits : IsBytes x.1
   pub shorter : length x.1 < length bytes
 
-part_taken : (kind : Header) (at : ℕ) (earlier : List Part) (bytes : List ℕ) (x : Part × List ℕ) → IsBytes bytes → part_at kind at earlier bytes ≡ Ok x → Takes kind bytes x
+pub part_taken : (kind : Header) (at : ℕ) (earlier : List Part) (bytes : List ℕ) (x : Part × List ℕ) → IsBytes bytes → part_at kind at earlier bytes ≡ Ok x → Takes kind bytes x
 part_taken kind at earlier bytes x fits e =
     let id = id_in kind bytes in
     let n = length_in kind bytes in
@@ -111,7 +108,3 @@ all_taken kind bytes all fits e =
     r.bytes_is
     ∙ ap (λ (k : ℕ). parts_text kind r.more ++ replicate k 0) z
     ∙ ap (λ (ps : List Part). parts_text kind ps ++ replicate (length bytes - length (parts_text kind ps)) 0) (sym r.all_is)
-
-pub is_spelled : (kind : Header) (bytes : List ℕ) (r : Result (Vec Part) ContainerFault) → IsBytes bytes → Gives (λ v. v.items) r (parts_of kind bytes) → IfOk r (λ v. bytes ≡ container_text kind v.items (length bytes))
-is_spelled kind bytes (Ok v) fits given = all_taken kind bytes v.items fits given
-is_spelled kind bytes (Err e) fits given = tt

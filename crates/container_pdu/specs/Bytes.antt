@@ -1,5 +1,5 @@
 -- Containers as AUTOSAR IpduM has them: parts one after another, each under a header.
-use Rattle.std.specs.Prelude.{◌≡◌, ◌≢◌, ◌≤◌, ◌<◌, ◌+◌, ◌-◌, ◌*◌, ◌^◌, ◌++◌, ℕ, Bool, List, [], ◌∷◌, length, sum, All, AllPairs, drop, nat_lt, replicate, if◌then◌else◌}
+use Rattle.std.specs.Prelude.{◌≡◌, ◌≢◌, ◌≤◌, ◌<◌, ◌+◌, ◌-◌, ◌*◌, ◌^◌, ◌++◌, ℕ, List, [], ◌∷◌, length, sum, All, AllPairs, drop, nat_lt, replicate, if◌then◌else◌}
 use Rattle.std.specs.List.{flat_map, list_all}
 use Rattle.std.specs.Int.{w32, to_be_bytes}
 use Rattle.container_pdu.specs.declared.header.Header.{Header}
@@ -10,7 +10,7 @@ use Rattle.container_pdu.specs.declared.part.Part.{Part}
 abbrev pub header_of : List ℕ → Header
 header_of ids =
     if nat_lt (length ids) 2 then NoHeader
-    else (if list_all (λ id. nat_lt id 16777216) ids then Short else Long)
+    else (if list_all (λ id. nat_lt id (2 ^ 24)) ids then Short else Long)
 
 -- the bytes of a header
 abbrev pub header_bytes : Header → ℕ
@@ -60,4 +60,8 @@ pub record Fits (header : Header) (parts : List Part) (size : ℕ) : Type 0 wher
   pub lengths : All (λ part. length part.bytes < length_limit header) parts
   pub distinct : AllPairs (λ part other. part.id ≢ other.id) parts
   pub room : length (parts_text header parts) ≤ size
-  pub small : size ≤ 64
+
+-- the bytes are those of the parts with their headers, and zeros
+pub record IsContainer (header : Header) (parts : List Part) (bytes : List ℕ) : Type 0 where
+  pub fits : Fits header parts (length bytes)
+  pub spelled : bytes ≡ container_text header parts (length bytes)

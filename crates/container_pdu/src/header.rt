@@ -14,14 +14,16 @@ pub enum Header {
     Long,
 }
 
-/// How many bytes a header is.
-pub fn length_of(header: Header) -> u32
-    ensures { result ≡ header_bytes header }
-{
-    match header {
-        Header::NoHeader => 0,
-        Header::Short => 4,
-        Header::Long => 8,
+impl Header {
+    /// How many bytes the header is.
+    pub fn bytes(self) -> u32
+        ensures { result ≡ header_bytes self }
+    {
+        match self {
+            Header::NoHeader => 0,
+            Header::Short => 4,
+            Header::Long => 8,
+        }
     }
 }
 
@@ -41,7 +43,7 @@ pub fn header_kind(ids: &[u32]) -> Header
 
 /// Whether each id has 24 bits at most.
 fn are_short(ids: &[u32]) -> bool
-    ensures { result ≡ list_all (λ id. nat_lt id 16777216) ids.now }
+    ensures { result ≡ list_all (λ id. nat_lt id (2 ^ 24)) ids.now }
 {
     ids.iter().all(|id| *id < 1 << 24)
 }
@@ -61,5 +63,5 @@ pub fn container_bytes(ids: &[u32], lengths: &[u32]) -> u32
     requires short { All (λ bytes. bytes ≤ 64) lengths.now }
     ensures { result ≡ bytes_of_parts ids.now lengths.now }
 {
-    ids.len() as u32 * length_of(header_kind(ids)) + total_of(lengths)
+    ids.len() as u32 * header_kind(ids).bytes() + total_of(lengths)
 }

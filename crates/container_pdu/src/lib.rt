@@ -15,3 +15,6 @@ pub use header::{Header, container_bytes, header_kind};
 pub use part::Part;
 pub use reading::read_container;
 pub use writing::write_container;
+
+#[cfg(test)]
+mod tests;

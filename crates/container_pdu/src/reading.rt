@@ -1,11 +1,12 @@
 //! Reading a container.
-ghost use Rattle.std.specs.Prelude.{◌≡◌, ◌≢◌, ◌≤◌, length, slice_index, IfOk};
-ghost use Rattle.container_pdu.specs.Bytes.{container_text, header_bytes};
+ghost use Rattle.std.specs.Prelude.{◌≡◌, ◌≢◌, ◌≤◌, ℕ, List, length, IfOk, Ok};
+ghost use Rattle.container_pdu.specs.Bytes.{IsContainer, header_bytes};
 ghost use Rattle.container_pdu.specs.Reading.{Gives, has_id, id_in, is_zeros, length_in, part_at, parts_of};
 ghost use Rattle.container_pdu.specs.declared.header.Header.TheVariants.{NoHeader};
+ghost use Rattle.container_pdu.specs.declared.part.Part.{Part};
 
 use crate::fault::ContainerFault;
-use crate::header::{Header, length_of};
+use crate::header::Header;
 use crate::part::Part;
 use pack_model::Payload;
 use std::alloc::Global;
@@ -59,7 +60,7 @@ fn read_part<'a>(
     ensures exact { Gives (λ x. (x.0, x.1.now)) result (part_at header at earlier.now bytes.now) }
     ensures shorter { IfOk result (λ x. length x.1.now ≤ length bytes.now) }
 {
-    let header_length = length_of(header) as usize;
+    let header_length = header.bytes() as usize;
     if bytes.len() < header_length {
         return Err(ContainerFault::CutHeader(at));
     }
@@ -90,7 +91,9 @@ pub fn read_container(
     // The parts of the bytes, or the first refusal.
     ensures exact { Gives (λ v. v.items) result (parts_of header payload.now) }
     // The bytes are those of the parts with their headers, and zeros.
-    ensures spelled { IfOk result (λ v. payload.now ≡ container_text header v.items (length payload.now)) }
+    ensures found { IfOk result (λ v. IsContainer header v.items payload.now) }
+    // Parts whose bytes with their headers and zeros these are, are read, unless memory runs out.
+    ensures only { (parts : List Part) → IsContainer header parts payload.now → Gives (λ v. v.items) result (Ok parts) }
 {
     read_parts(alloc, payload, header)
 }

@@ -1,5 +1,5 @@
 //! Writing a container.
-ghost use Rattle.std.specs.Prelude.{◌≡◌, ◌<◌, ◌++◌, length, IfOk, OnOk, Ok};
+ghost use Rattle.std.specs.Prelude.{◌≡◌, ◌≤◌, ◌<◌, ◌++◌, length, IfOk, OnOk, Ok};
 ghost use Rattle.container_pdu.specs.Bytes.{Fits, container_text, header_text, length_limit, part_text};
 ghost use Rattle.container_pdu.specs.Reading.{parts_of};
 
@@ -46,7 +46,8 @@ pub fn write_container(
     parts: &[Part],
     size: u32,
 ) -> Result<Vec<u8>, Memory>
-    requires { Fits header parts.now size }
+    requires fits { Fits header parts.now size }
+    requires small { size ≤ 64 }
     ensures exact { IfOk result (λ v. v.items ≡ container_text header parts.now size) }
     // `read_container` of the bytes gives the same parts.
     ensures reads_back { IfOk result (λ v. parts_of header v.items ≡ Ok parts.now) }

@@ -1,8 +1,7 @@
-use Rattle.std.proofs.Common.{◌≡◌, ◌≤◌, ◌*◌, ◌<◌, length, arith}
-use Rattle.std.specs.Prelude.{All, sum}
+use Rattle.std.proofs.Common.{◌≤◌, ◌*◌, length, arith}
 use Rattle.std.proofs.lemmas.List.Sums.{sum_by-le}
 use Rattle.std.proofs.Math.Nat.{mul-le-mul}
-use Rattle.container_pdu.specs.Bytes.{header_bytes, header_of}
+use Rattle.container_pdu.specs.Bytes.{header_bytes}
 use Rattle.container_pdu.specs.declared.header.Header.{Header}
 use Rattle.container_pdu.specs.declared.header.Header.TheVariants.{NoHeader, Short, Long}
 use Rattle.container_pdu.proofs.header.container_bytes.Goals as goal
@@ -20,6 +19,6 @@ total_of-requires c =
 pub overflow_add-result : goal.overflow_add-result
 overflow_add-result c =
     let most = sum_by-le (λ x. x) 64 c.args.lengths.now c.requires.short in
-    let eight : c.length_of.result ≤ 8 = rw c.length_of.ensures (header_bytes_le _) in
-    let heads : length c.args.ids.now * c.length_of.result ≤ 128 * 8 = mul-le-mul c.requires.few eight in
+    let eight : c.bytes.result ≤ 8 = rw c.bytes.ensures (header_bytes_le _) in
+    let heads : length c.args.ids.now * c.bytes.result ≤ 128 * 8 = mul-le-mul c.requires.few eight in
     omega (arith, most, heads)

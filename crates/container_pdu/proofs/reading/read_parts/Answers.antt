@@ -1,6 +1,5 @@
-use Rattle.std.proofs.Common.{◌≡◌, ◌++◌, ◌∷◌, [], false, sym, ◌∙◌, subst, arith}
+use Rattle.std.proofs.Common.{sym, ◌∙◌, arith}
 use Rattle.std.proofs.lemmas.Result.{err_from_is_err_and}
-use Rattle.container_pdu.specs.Reading.{is_zeros, parts_of, parts_after}
 use Rattle.container_pdu.proofs.Loop.{goes_on, ends, are_zeros, is_done}
 use Rattle.container_pdu.proofs.reading.read_parts.Goals as goal
 
