@@ -1,5 +1,5 @@
 -- Signals. Limits are the project's own.
-use Rattle.std.specs.Prelude.{◌≡◌, ◌≤◌, None, IfSome}
+use Rattle.std.specs.Prelude.{Bool, false, ℕ, nat_eq, ◌≡◌, ◌≤◌, Option, None, Some, IfSome}
 use Rattle.pack_model.specs.declared.signal.Signal.{Signal}
 
 -- each figure of the signal is in its range; a signal's and a sender's names are names by their type
@@ -13,6 +13,8 @@ pub record SignalStands (s : Signal) : Type 0 where
   pub deadline_high : s.deadline_us ≤ 100000000
   pub jitter_high : s.jitter_us ≤ 100000000
 
--- the signal is in no I-PDU
-abbrev pub IsFree : Signal → Type 0
-IsFree s = s.pdu ≡ None
+-- both are the id of one I-PDU
+abbrev pub same_pdu : Option ℕ → Option ℕ → Bool
+same_pdu (Some id) (Some other) = nat_eq id other
+same_pdu None other = false
+same_pdu (Some id) None = false

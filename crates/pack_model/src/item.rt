@@ -1,7 +1,7 @@
 //! Items: what is put into frames whole.
 use crate::lists::Labels;
 
-/// One free signal: what a frame takes whole.
+/// One free signal, or all signals of one I-PDU: what a frame takes whole.
 #[derive(Debug, Drop)]
 pub struct Item {
     /// The sender's number, by first place in the signal list.
