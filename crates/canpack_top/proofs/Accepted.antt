@@ -7,7 +7,7 @@ use Rattle.csv_table.specs.Columns.{◌>>=◌}
 use Rattle.pack_base.specs.Outside.{Files, file_at}
 use Rattle.pack_model.specs.Problem.{Parts}
 use Rattle.pack_model.specs.Signal.{IsFree}
-use Rattle.matrix_text.specs.declared.matrix.Header.TheVariants.{NoHeader}
+use Rattle.container_pdu.specs.declared.header.Header.TheVariants.{NoHeader}
 use Rattle.matrix_text.specs.declared.matrix.MatrixRow.{MatrixRow}
 use Rattle.matrix_text.specs.MatrixText.{MatrixText, matrix_text}
 use Rattle.matrix_text.specs.Placed.{Placed, RowOf}

@@ -6,8 +6,8 @@ use Rattle.csv_table.specs.Columns.{◌>>=◌}
 use Rattle.pack_model.specs.declared.network.Network.{Network}
 use Rattle.pack_model.specs.declared.signal.Signal.{Signal}
 use Rattle.matrix_text.specs.MatrixText.{matrix_of_text}
-use Rattle.matrix_text.specs.declared.matrix.Header.{Header}
-use Rattle.matrix_text.specs.declared.matrix.Header.TheVariants as header
+use Rattle.container_pdu.specs.declared.header.Header.{Header}
+use Rattle.container_pdu.specs.declared.header.Header.TheVariants as header
 use Rattle.matrix_text.specs.declared.matrix.MatrixRow.{MatrixRow}
 use Rattle.input_text.specs.NetworkText.{network_of}
 use Rattle.input_text.specs.SignalsText.{signals_of}

@@ -15,8 +15,8 @@ use Rattle.csv_table.specs.Writing.{optional_text}
 use Rattle.csv_table.proofs.Ranges.{Within, name_back, number_back, number_within, optional_back, optional_within}
 use Rattle.csv_table.proofs.RoundTrip.{map_read_back, rows_of-rows_text}
 use Rattle.matrix_text.specs.Row.{RowInRange}
-use Rattle.matrix_text.specs.declared.matrix.Header.{Header}
-use Rattle.matrix_text.specs.declared.matrix.Header.TheVariants.{NoHeader, Short, Long}
+use Rattle.container_pdu.specs.declared.header.Header.{Header}
+use Rattle.container_pdu.specs.declared.header.Header.TheVariants.{NoHeader, Short, Long}
 use Rattle.matrix_text.specs.declared.matrix.MatrixRow.{MatrixRow}
 use Rattle.matrix_text.specs.declared.text.MatrixFault.{MatrixFault}
 use Rattle.matrix_text.specs.MatrixText.{MatrixRefusal, ReadsBack, bad_header, bad_row, header_in, header_text, matrix_header, matrix_in, matrix_of_text, matrix_refusal, matrix_text, row_fields, row_of, size_in}

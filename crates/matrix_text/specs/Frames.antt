@@ -1,24 +1,13 @@
 -- The grouping of a placed matrix, and its classes by ascending identifier.
-use Rattle.std.specs.Prelude.{ℕ, nat_eq, List, [], map, filter, find, slice_get, slice_index}
+use Rattle.std.specs.Prelude.{ℕ, nat_eq, List, map, filter}
 use Rattle.std.specs.List.{list_any, position_or_len, range_with_len}
-use Rattle.std.specs.Option.{option_map_or}
-use Rattle.pack_model.specs.declared.signal.Signal.{Signal}
-use Rattle.pack_model.specs.declared.item.Item.{Item}
 use Rattle.pack_model.specs.Problem.{Parts, distinct}
 use Rattle.matrix_text.specs.declared.matrix.MatrixRow.{MatrixRow}
-use Rattle.matrix_text.specs.Placed.{is_named}
-
--- the name of an item's first signal
-abbrev pub name_of_item : List Signal → Item → List ℕ
-name_of_item signals item = option_map_or (λ signal. signal.name) (slice_get signals (slice_index item.members 0)) []
-
--- the identifier of the frame that the signal of a name is in
-abbrev pub identifier_of : List MatrixRow → List ℕ → ℕ
-identifier_of rows name = option_map_or (λ row. row.id) (find (is_named name) rows) 0
+use Rattle.matrix_text.specs.Items.{frame_of_item}
 
 -- the identifier of each item's frame
 abbrev pub identifiers_of : Parts → List MatrixRow → List ℕ
-identifiers_of problem rows = map (λ item. identifier_of rows (name_of_item problem.signals item)) problem.items
+identifiers_of problem rows = map (frame_of_item problem rows) problem.items
 
 -- the label of a number: its place among the different ones
 abbrev pub label_in : List ℕ → ℕ → ℕ

@@ -1,4 +1,5 @@
 pub mod Frames
+pub mod Items
 pub mod LaidOut
 pub mod MatrixText
 pub mod OnePlace

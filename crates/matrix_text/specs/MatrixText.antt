@@ -5,8 +5,8 @@ use Rattle.fd_length.specs.Size.{is_size}
 use Rattle.csv_table.specs.Columns.{◌>>=◌, begins_with, count_in, field_in, name_in, number_in, optional_in, rows_from}
 use Rattle.csv_table.specs.Rows.{rows_of}
 use Rattle.csv_table.specs.Writing.{optional_text, rows_text}
-use Rattle.matrix_text.specs.declared.matrix.Header.{Header}
-use Rattle.matrix_text.specs.declared.matrix.Header.TheVariants.{NoHeader, Short, Long}
+use Rattle.container_pdu.specs.declared.header.Header.{Header}
+use Rattle.container_pdu.specs.declared.header.Header.TheVariants.{NoHeader, Short, Long}
 use Rattle.matrix_text.specs.declared.matrix.MatrixRow.{MatrixRow}
 use Rattle.matrix_text.specs.declared.text.MatrixFault.{MatrixFault}
 use Rattle.matrix_text.specs.declared.text.MatrixFault.TheVariants as fault

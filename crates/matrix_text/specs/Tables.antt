@@ -5,7 +5,7 @@ use Rattle.pack_model.specs.declared.network.Network.{Network}
 use Rattle.fd_length.specs.Size.{fd_size_of}
 use Rattle.frame_ticks.specs.Worst.{worst_ticks_of}
 use Rattle.ipdu_layout.specs.Layout.{bytes_of}
-use Rattle.matrix_text.specs.declared.matrix.Header.TheVariants.{NoHeader}
+use Rattle.container_pdu.specs.declared.header.Header.TheVariants.{NoHeader}
 use Rattle.pack_model.specs.declared.signal.Signal.{Signal}
 use Rattle.pack_model.specs.Problem.{names_of}
 use Rattle.ipdu_layout.specs.declared.place.Place.{Place}

@@ -4,12 +4,13 @@ ghost use Rattle.pack_model.specs.Network.{NetworkStands};
 ghost use Rattle.fd_length.specs.Size.{fd_size_of};
 ghost use Rattle.frame_ticks.specs.Worst.{worst_ticks_of};
 ghost use Rattle.ipdu_layout.specs.Layout.{bytes_of};
-ghost use Rattle.matrix_text.specs.declared.matrix.Header.TheVariants.{NoHeader};
+ghost use Rattle.container_pdu.specs.declared.header.Header.TheVariants.{NoHeader};
 ghost use Rattle.matrix_text.specs.Placed.{SameFrame, FrameFits, InsidePart, bits_in_frame};
 ghost use Rattle.matrix_text.specs.Row.{RowInRange};
 ghost use Rattle.matrix_text.specs.Tables.{FitsBits, IsPlain};
 
-use crate::matrix::{Header, MatrixRow};
+use crate::matrix::MatrixRow;
+use container_pdu::Header;
 use fd_length::fd_size;
 use frame_ticks::worst_ticks;
 use pack_model::Network;

@@ -4,7 +4,8 @@ ghost use Rattle.pack_model.specs.Network.{NetworkStands};
 ghost use Rattle.pack_model.specs.Signal.{SignalStands};
 ghost use Rattle.matrix_text.specs.LaidOut.{row_with, rows_of_frame, signals_at, widths_of};
 
-use crate::matrix::{Header, MatrixRow};
+use crate::matrix::MatrixRow;
+use container_pdu::Header;
 use fd_length::fd_size;
 use frame_ticks::worst_ticks;
 use ipdu_layout::lay;

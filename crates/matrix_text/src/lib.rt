@@ -17,5 +17,5 @@ mod text;
 
 pub use labels::labels_of;
 pub use layout::{matrix_of, one_frame_each};
-pub use matrix::{Header, Matrix, MatrixRow};
+pub use matrix::{Matrix, MatrixRow};
 pub use text::{MatrixFault, read_matrix, write_matrix};

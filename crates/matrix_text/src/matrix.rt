@@ -2,19 +2,9 @@
 ghost use Rattle.std.specs.Prelude.{◌≡◌, All};
 ghost use Rattle.matrix_text.specs.Row.{RowInRange};
 
+use container_pdu::Header;
 use pack_model::Name;
 use std::marker::Model;
-
-/// The kind of header that a frame's I-PDUs have (AUTOSAR IpduM).
-#[derive(Clone, Copy, Debug, PartialEq, Eq)]
-pub enum Header {
-    /// None: the frame has free signals or one I-PDU.
-    NoHeader,
-    /// A 24-bit id and an 8-bit length, 4 bytes.
-    Short,
-    /// A 32-bit id and a 32-bit length, 8 bytes.
-    Long,
-}
 
 /// One row: where one signal stands.
 #[derive(Debug, Drop)]

@@ -10,7 +10,8 @@ ghost use Rattle.matrix_text.specs.MatrixText.{MatrixText, ReadsBack, bad_row, h
 ghost use Rattle.matrix_text.specs.Row.{RowInRange};
 ghost use Rattle.matrix_text.specs.declared.text.MatrixFault.TheVariants as fault;
 
-use crate::matrix::{Header, Matrix, MatrixRow};
+use crate::matrix::{Matrix, MatrixRow};
+use container_pdu::Header;
 use csv::ByteRecord;
 use csv_table::{
     ColumnFault, Rows, RowsWriter, count_at, field_at, name_at, number_at, optional_at,
