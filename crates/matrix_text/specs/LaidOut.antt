@@ -50,9 +50,9 @@ pub record FramePart : Type 0 where
 
 -- the parts of a container from a byte on, each after its header
 abbrev pub parts_from : Header → ℕ → List Item → List FramePart
-parts_from header next [] = []
-parts_from header next (item ∷ items) =
-    record { at = next + header_bytes header; places = item.members } ∷ parts_from header (next + header_bytes header + bytes_of_item item) items
+parts_from kind next [] = []
+parts_from kind next (item ∷ items) =
+    record { at = next + header_bytes kind; places = item.members } ∷ parts_from kind (next + header_bytes kind + bytes_of_item item) items
 
 -- the parts of a frame by its header: one where it has none
 abbrev pub parts_with : Header → List Item → List FramePart

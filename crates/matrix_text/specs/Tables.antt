@@ -10,7 +10,7 @@ use Rattle.pack_model.specs.declared.signal.Signal.{Signal}
 use Rattle.pack_model.specs.Problem.{names_of}
 use Rattle.ipdu_layout.specs.declared.place.Place.{Place}
 use Rattle.matrix_text.specs.declared.matrix.MatrixRow.{MatrixRow}
-use Rattle.matrix_text.specs.Placed.{is_named}
+use Rattle.matrix_text.specs.Items.{is_named}
 use Rattle.matrix_text.specs.Frames.{label_in}
 
 -- a row number that no matrix has, and a label that no frame has
