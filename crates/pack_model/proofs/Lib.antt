@@ -1,4 +1,6 @@
 pub mod BySender
+pub mod Classes
 pub mod Distinct
 pub mod GroupingLaws
 mod GroupingValues
+pub mod Moves
