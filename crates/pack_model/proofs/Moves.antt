@@ -1,11 +1,14 @@
 -- What a list keeps when its elements change places.
-use Rattle.std.proofs.Common.{◌≡◌, ◌<◌, ℕ, zero, suc, Bool, cond, nat_eq, ◌⊎◌, inl, inr, List, [], ◌∷◌, ◌++◌, length, get_or, set, refl, sym, ap, subst, ◌∙◌, arith, append_assoc, eq-eqb, ne_eqb}
+use Rattle.std.proofs.Common.{◌≡◌, ◌<◌, ℕ, zero, suc, Bool, cond, nat_eq, ◌⊎◌, inl, inr, List, [], ◌∷◌, ◌++◌, length, map, get_or, set, refl, sym, ap, subst, ◌∙◌, arith, append_assoc, eq-eqb, ne_eqb}
 use Rattle.std.specs.List.{flat_map, swap}
 use Rattle.std.specs.List.Sorted.{IsPermutation}
 use Rattle.std.proofs.lemmas.Bool.{cases_eq}
-use Rattle.std.proofs.lemmas.List.{get_or_default}
+use Rattle.std.proofs.lemmas.Bool.Decides.{nat_tests}
+use Rattle.std.proofs.lemmas.List.{get_or_default, get_or-map, length-map}
 use Rattle.std.proofs.lemmas.List.Edits.{swap_is, swapped_from_swap, length-swap, Swapped}
 use Rattle.std.proofs.lemmas.List.Sorted.{IsPermutation-refl, IsPermutation-trans, IsPermutation-append_left, IsPermutation-append_right, IsPermutation-append_comm, IsPermutation-keeps}
+
+use Rattle.pack_model.proofs.Laws.{element}
 
 -- two fronts change places
 exchange : {A : Type 0} (a b c : List A) → IsPermutation (a ++ (b ++ c)) (b ++ (a ++ c))
@@ -50,10 +53,10 @@ abbrev partner : ℕ → ℕ → ℕ → ℕ
 partner a b i = cond (nat_eq i a) b (cond (nat_eq i b) a i)
 
 same_partner : (a b i j : ℕ) → partner a b i ≡ partner a b j → i ≡ j
-same_partner a b i j same = ?
+same_partner a b i j same = grind (arith, nat_tests)
 
 partner_within : (a b i n : ℕ) → a < n → b < n → i < n → partner a b i < n
-partner_within a b i n lt_a lt_b lt = ?
+partner_within a b i n lt_a lt_b lt = grind (arith, nat_tests)
 
 from_partner : {X : Type 0} (f g : ℕ → X) (a b i : ℕ) → Swapped f g a b → g i ≡ f (partner a b i)
 from_partner f g a b i moves = by (cases_eq i a) (cases_eq i b)
@@ -74,3 +77,11 @@ AtMostOne-permutation {X} P xs ys same one = IsPermutation-keeps xs (AtMostOne P
         same_partner a b i j (so_far (partner a b i) (partner a b j) d (partner_within a b i (length l) lt_a lt_b (omega arith)) (partner_within a b j (length l) lt_a lt_b (omega arith))
         (subst P (from_partner (λ k. get_or l k d) (λ k. get_or (swap l a b) k d) a b i moves) at_i)
         (subst P (from_partner (λ k. get_or l k d) (λ k. get_or (swap l a b) k d) a b j moves) at_j))
+
+-- what a function makes of a list has it, where the list has it so
+pub AtMostOne-map : {X Y : Type 0} (f : X → Y) (P : Y → Type 0) (xs : List X) → AtMostOne (λ x. P (f x)) xs → AtMostOne P (map f xs)
+AtMostOne-map {X} {Y} f P xs one i j d lt_i lt_j at_i at_j =
+    let in_i : i < length xs = simp length-map at lt_i in
+    let in_j : j < length xs = simp length-map at lt_j in
+    let x : X = (element xs i in_i).0 in
+    one i j x in_i in_j (subst P (get_or-map f xs i x d in_i) at_i) (subst P (get_or-map f xs j x d in_j) at_j)

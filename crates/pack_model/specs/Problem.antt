@@ -1,5 +1,5 @@
 -- The problem of a network and its signals. Items stand for AUTOSAR COM's I-PDUs with fixed layout; limits are the project's own.
-use Rattle.std.specs.Prelude.{Bool, true, false, ℕ, ◌+◌, ◌*◌, ◌%◌, ◌&&◌, not, ◌==◌, nat_eq, nat_lt, List, [], ◌∷◌, ◌++◌, length, map, filter, find, sum_by, fold, is_some, unwrap_or, Option, None, Some, Result, Ok, Err, if◌then◌else◌, ◌≡◌, ◌≤◌, All, ⊤}
+use Rattle.std.specs.Prelude.{Bool, false, ℕ, ◌+◌, ◌*◌, ◌%◌, ◌&&◌, not, ◌==◌, nat_eq, nat_lt, List, [], ◌∷◌, ◌++◌, length, map, filter, find, sum_by, fold, is_some, unwrap_or, Option, None, Some, Result, Ok, Err, if◌then◌else◌, ◌≡◌, ◌≤◌, All, ⊤}
 use Rattle.std.specs.List.{list_any, enumerate_from, flat_map, range_with_len, position_or_len}
 use Rattle.std.specs.List.Sorted.{IsPermutation}
 use Rattle.std.specs.Str.{bytes_eq}

@@ -1,5 +1,5 @@
 -- Signals. Limits are the project's own.
-use Rattle.std.specs.Prelude.{Bool, false, ℕ, nat_eq, ◌≡◌, ◌≤◌, Option, None, Some, IfSome}
+use Rattle.std.specs.Prelude.{Bool, false, ℕ, nat_eq, ◌≤◌, Option, None, Some, IfSome}
 use Rattle.pack_model.specs.declared.signal.Signal.{Signal}
 
 -- each figure of the signal is in its range; a signal's and a sender's names are names by their type
