@@ -1,17 +1,19 @@
 -- What the items of a problem are of its signals, for the crates above.
-use Rattle.std.proofs.Common.{◌≡◌, ◌≤◌, ◌<◌, ℕ, Bool, true, false, List, [], ◌∷◌, ◌++◌, length, map, filter, get_or, Option, None, Some, All, Contains, sum_by, refl, sym, ap, subst, ◌∙◌, arith, eqb-true, true≢false}
+use Rattle.std.proofs.Common.{◌≡◌, ◌≤◌, ◌<◌, ℕ, true, List, [], ◌∷◌, ◌++◌, length, map, filter, get_or, Option, None, Some, All, Contains, sum_by, refl, sym, ap, subst, ◌∙◌, arith, eqb-true, true≢false}
 use Rattle.std.specs.Prelude.{slice_get, slice_index_or}
 use Rattle.std.specs.List.{filter_map, flat_map, range_with_len, Any}
 use Rattle.std.specs.List.Sorted.{IsPermutation}
 use Rattle.std.proofs.lemmas.List.{map-append, get_or_default, nil_from_length}
 use Rattle.std.proofs.lemmas.List.Elements.{All-map, All-weaker, All-contains, filter_agree}
 use Rattle.std.proofs.lemmas.List.Folds.{flat_map-map}
-use Rattle.std.proofs.lemmas.List.Sorted.{All-permutation, Contains-permutation, IsPermutation-map, IsPermutation-trans}
+use Rattle.std.proofs.lemmas.List.Sums.{sum_by-cons}
+use Rattle.std.proofs.lemmas.List.Sorted.{All-permutation, Contains-permutation, IsPermutation-refl, IsPermutation-map, IsPermutation-trans}
 use Rattle.pack_model.specs.declared.signal.Signal.{Signal}
 use Rattle.pack_model.specs.declared.item.Item.{Item}
-use Rattle.pack_model.specs.Signal.{same_pdu}
+use Rattle.pack_model.specs.Signal.{SignalStands, same_pdu}
 use Rattle.pack_model.specs.Problem.{Parts, IsProblem, IsSorted, item_of, items_in_order, firsts_of, placed, same_item, signals_with, is_one_item}
-use Rattle.pack_model.proofs.Laws.{element}
+use Rattle.pack_model.proofs.Laws.{element, tests}
+use Rattle.pack_model.proofs.ProblemItems.{of_problem, small_pdus, pdu_sender, sender_at}
 use Rattle.pack_model.proofs.Classes.{one_class, in_a_class, classes}
 use Rattle.pack_model.proofs.Moves.{AtMostOne-map, AtMostOne-permutation, IsPermutation-flat_map}
 use Rattle.pack_model.proofs.PlacedLaws.{same_item_equivalence, IsPlaced, IsHead, heads, all_with, members_same, member_there, placed_there, places_of, Contains-map, pdu_of_one_item, one_item_of_pdu, one_at_most, found_at_places, bits_of_placed, kept_by_signal}
@@ -41,16 +43,21 @@ of_pdu : (id a : ℕ) (o : Option ℕ) (b : ℕ) → is_one_item (Some id) a o b
 of_pdu id a None b = refl
 of_pdu id a (Some other) b = refl
 
+-- a free signal is at its own place
+place_of_free : (o p : Option ℕ) (a b : ℕ) → o ≡ None → is_one_item o a p b ≡ true → b ≡ a
+place_of_free o None a b free same = sym (eqb-true a b (sym (ap (λ x. is_one_item x a None b) free) ∙ same))
+place_of_free o (Some other) a b free same = absurd (true≢false (sym same ∙ ap (λ x. is_one_item x a (Some other) b) free))
+
 -- a free signal is its item's only one
 free_alone : (signals : List Signal) (e : ℕ × Signal) → IsHead signals e → e.1.pdu ≡ None → signals_with signals e ≡ e ∷ []
 free_alone signals e head free =
     let few = one_at_most (same_item e) e.0 0 signals (λ f same. place_of_free e.1.pdu f.1.pdu e.0 f.0 free same) in
     let none : head.rest ≡ [] = nil_from_length head.rest (omega (arith, few, ap length head.first)) in
     head.first ∙ ap (λ l. e ∷ l) none
-  where
-    place_of_free : (o p : Option ℕ) (a b : ℕ) → o ≡ None → is_one_item o a p b ≡ true → b ≡ a
-    place_of_free o None a b free same = sym (eqb-true a b (sym (ap (λ x. is_one_item x a None b) free) ∙ same))
-    place_of_free o (Some other) a b free same = absurd (true≢false (sym same ∙ ap (λ x. is_one_item x a (Some other) b) free))
+
+-- a placed signal of a problem stands
+signal_stands : (p : Parts) → IsProblem p → (e : ℕ × Signal) → IsPlaced p.signals e → SignalStands e.1
+signal_stands p stands e here = subst SignalStands (sym here.at) (stands.signals e.0 e.1 here.within)
 
 -- each item is that of its first signal
 pub items_of_signals : (signals : List Signal) (items : List Item) → IsSorted signals items → All (IsItemOf signals) items
@@ -151,11 +158,46 @@ bits_of_pdu signals items sorted =
 
 -- an item has a bit, and no more than a frame
 pub some_bits : (p : Parts) → IsProblem p → All (λ item. 1 ≤ item.bits) p.items
-some_bits = ?
+some_bits p stands =
+    of_problem p stands (λ item. 1 ≤ item.bits)
+    (of_heads p.signals (λ item. 1 ≤ item.bits)
+    (λ e head.
+    omega (arith, (signal_stands p stands e head.here).bits_low, ap (sum_by (λ (f : ℕ × Signal). f.1.bits)) head.first, sum_by-cons (λ (f : ℕ × Signal). f.1.bits) e head.rest))
+    (items_in_order p.signals) (IsPermutation-refl (items_in_order p.signals)))
 
 pub small_items : (p : Parts) → IsProblem p → All (λ item. item.bits ≤ 512) p.items
-small_items = ?
+small_items p stands =
+    of_problem p stands (λ item. item.bits ≤ 512) (λ k d lt. by (get_or (items_in_order p.signals) k d) (get_or (items_in_order p.signals) k d).pdu refl (small_pdus p stands k d lt) (small_free k d lt))
+  where
+    small_free : All (λ item. item.pdu ≡ None → item.bits ≤ 512) (items_in_order p.signals)
+    small_free =
+        of_heads p.signals (λ item. item.pdu ≡ None → item.bits ≤ 512)
+        (λ e head free.
+        omega (arith, (signal_stands p stands e head.here).bits_high, ap (sum_by (λ (f : ℕ × Signal). f.1.bits)) (free_alone p.signals e head free), sum_by-cons (λ (f : ℕ × Signal). f.1.bits) e []))
+        (items_in_order p.signals) (IsPermutation-refl (items_in_order p.signals))
+
+    by : (item : Item) (o : Option ℕ) → item.pdu ≡ o → ((id : ℕ) → item.pdu ≡ Some id → item.bits ≤ 512) → (item.pdu ≡ None → item.bits ≤ 512) → item.bits ≤ 512
+    by item None is pdu free = free is
+    by item (Some id) is pdu free = pdu id is
 
 -- a member has the item's sender
 pub members_sender : (p : Parts) → IsProblem p → All (λ item. All (λ m. (d : Signal) → (get_or p.signals m d).sender ≡ slice_index_or p.senders item.sender []) item.members) p.items
-members_sender = ?
+members_sender p stands =
+    of_problem p stands (λ item. All (λ m. (d : Signal) → (get_or p.signals m d).sender ≡ slice_index_or p.senders item.sender []) item.members)
+    (of_heads p.signals (λ item. All (λ m. (d : Signal) → (get_or p.signals m d).sender ≡ slice_index_or p.senders item.sender []) item.members)
+    (λ e head k n lt d. of_member e head.here (get_or (item_of p.signals e).members k n) (members_same p.signals e k n lt).0 d ((members_same p.signals e k n lt).1 d))
+    (items_in_order p.signals) (IsPermutation-refl (items_in_order p.signals)))
+  where
+    -- a signal of the item has its first signal's sender
+    of_first : (e : ℕ × Signal) → IsPlaced p.signals e → (o : Option ℕ) → e.1.pdu ≡ o → (m : ℕ) → m < length p.signals → (d : Signal) → same_item e (m, get_or p.signals m d) ≡ true → (get_or p.signals m d).sender ≡ (get_or p.signals e.0 d).sender
+    of_first e here None is m lt d same = ap (λ n. (get_or p.signals n d).sender) (place_of_free e.1.pdu (get_or p.signals m d).pdu e.0 m is same)
+    of_first e here (Some id) is m lt d same =
+        pdu_sender p.signals (tests p stands).one_sender m e.0 id d lt here.within (pdu_of_one_item e.1.pdu (get_or p.signals m d).pdu e.0 m same ∙ is)
+        (ap (λ (s : Signal). s.pdu) (get_or_default p.signals e.0 d e.1 here.within ∙ sym here.at) ∙ is)
+
+    of_member : (e : ℕ × Signal) → IsPlaced p.signals e → (m : ℕ) → m < length p.signals → (d : Signal) → same_item e (m, get_or p.signals m d) ≡ true → (get_or p.signals m d).sender ≡ get_or p.senders (item_of p.signals e).sender []
+    of_member e here m lt d same =
+        of_first e here e.1.pdu refl m lt d same
+        ∙ ap (λ (s : Signal). s.sender) (get_or_default p.signals e.0 d e.1 here.within ∙ sym here.at)
+        ∙ sym (sender_at p.signals e.0 e.1 here.within here.at)
+        ∙ sym (ap (λ l. get_or l (item_of p.signals e).sender []) (tests p stands).senders)

@@ -7,3 +7,4 @@ pub mod ItemFacts
 pub mod Laws
 pub mod Moves
 pub mod PlacedLaws
+pub mod ProblemItems

@@ -1,9 +1,8 @@
 -- The signals of a list with their places, and which of them are of one item.
-use Rattle.std.proofs.Common.{◌≡◌, ◌<◌, ◌≤◌, ◌+◌, ℕ, zero, suc, Bool, true, false, cond, filter, map, ◌⊎◌, inl, inr, Option, None, Some, List, [], ◌∷◌, ◌++◌, length, get_or, nat_eq, refl, sym, ap, subst, ◌∙◌, arith, zero-add, true≢false, eq-eqb, eqb-true, All, Contains, sum_by}
+use Rattle.std.proofs.Common.{◌≡◌, ◌<◌, ◌≤◌, ◌+◌, ℕ, zero, suc, Bool, true, false, cond, filter, map, Option, None, Some, List, [], ◌∷◌, length, get_or, nat_eq, refl, sym, ap, subst, ◌∙◌, arith, zero-add, true≢false, eq-eqb, eqb-true, All, Contains, sum_by}
 use Rattle.std.specs.Prelude.{slice_get}
 use Rattle.std.specs.Cmp.{IsEquivalence}
 use Rattle.std.specs.List.{enumerate_from, filter_map, cons_option, range_with_len}
-use Rattle.std.proofs.lemmas.Bool.{cases_eq}
 use Rattle.std.proofs.lemmas.Bool.Decides.{nat_tests}
 use Rattle.std.proofs.lemmas.List.{get_or_default, get_or-map, length-map}
 use Rattle.std.proofs.lemmas.List.Elements.{All-head, All-tail, All-map, All-filter, filter_passes, Contains-append_right}
@@ -11,8 +10,6 @@ use Rattle.std.proofs.lemmas.List.Folds.{fold-map}
 use Rattle.std.proofs.lemmas.List.FromFn.{length-enumerate_from, get_or-enumerate_from}
 use Rattle.std.proofs.lemmas.Option.{slice_get-get_or}
 use Rattle.pack_model.specs.declared.signal.Signal.{Signal}
-use Rattle.pack_model.specs.declared.item.Item.{Item}
-use Rattle.pack_model.specs.Signal.{same_pdu}
 use Rattle.pack_model.specs.Problem.{placed, is_one_item, same_item, signals_with, item_of, firsts_of}
 use Rattle.pack_model.proofs.Classes.{All-distinct, firsts}
 
