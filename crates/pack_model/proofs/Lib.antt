@@ -3,3 +3,6 @@ pub mod Distinct
 pub mod GroupingLaws
 mod GroupingValues
 pub mod Laws
+pub mod Multiples
+pub mod Numbering
+pub mod Periods
