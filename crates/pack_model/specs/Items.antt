@@ -8,7 +8,7 @@ use Rattle.pack_model.specs.declared.items.Key.{Key}
 use Rattle.pack_model.specs.declared.items.Key.TheVariants.{Free, Pdu}
 use Rattle.pack_model.specs.declared.problem.ProblemFault.{ProblemFault}
 use Rattle.pack_model.specs.declared.problem.ProblemFault.TheVariants.{TwiceNamed, PduSenders}
-use Rattle.pack_model.specs.Problem.{placed, same_item, firsts_of}
+use Rattle.pack_model.specs.Problem.{placed, same_item, distinct}
 
 -- the fault that a repeat is
 abbrev pub IsRepeat : Option ℕ → ProblemFault → Type 0
@@ -30,8 +30,12 @@ abbrev pub places_with : List (ℕ × Signal) → ℕ × Signal → List ℕ
 places_with signals e = map (λ f. f.0) (filter (same_item e) signals)
 
 -- the places of the signals of each item, by the list place of their first signal
+abbrev pub groups_of : List (ℕ × Signal) → List (List ℕ)
+groups_of signals = map (places_with signals) (distinct same_item signals)
+
+-- the places of the signals of each item of a list
 abbrev pub places_by_item : List Signal → List (List ℕ)
-places_by_item signals = map (places_with (placed signals)) (firsts_of signals)
+places_by_item signals = groups_of (placed signals)
 
 -- the lists after a place is put last in the list of a number, or alone in a new last list
 abbrev pub put_at : ℕ → ℕ → List (List ℕ) → List (List ℕ)

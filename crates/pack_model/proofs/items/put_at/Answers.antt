@@ -1,5 +1,4 @@
-use Rattle.std.proofs.Common.{◌≡◌, ◌<◌, ◌++◌, ◌∷◌, [], length, get_or, map, subst, sym, ap, ◌∙◌, arith, set, Vec, ℕ, Global}
-use Rattle.pack_model.specs.Items.{put_at}
+use Rattle.std.proofs.Common.{◌≡◌, ◌<◌, ◌++◌, ◌∷◌, [], length, get_or, map, ap, ◌∙◌, arith, set, Vec, ℕ, Global}
 use Rattle.pack_model.proofs.ItemSteps.{put_in, put_last}
 use Rattle.pack_model.proofs.items.put_at.Goals as goal
 use Rattle.pack_model.proofs.items.put_at.Goals.{then-number-len+in_ok-push, else-number-len}

@@ -1,5 +1,4 @@
-use Rattle.std.proofs.Common.{◌≡◌, ◌≤◌, ◌<◌, ◌*◌, ap, sym, ◌∙◌, arith}
-use Rattle.std.proofs.Math.Nat.{mul-le-mul}
+use Rattle.std.proofs.Common.{◌≡◌, ◌≤◌, ◌<◌, ◌*◌, ap, ◌∙◌, arith}
 use Rattle.pack_model.specs.Problem.{lcm, hyper_of}
 use Rattle.pack_model.proofs.Multiples.{lcm_some}
 use Rattle.pack_model.proofs.Periods.{period_more, period_least, period_some}
