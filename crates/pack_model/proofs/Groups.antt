@@ -141,7 +141,7 @@ groups_step front e =
     ∙ ap (map (places_with (front ++ e ∷ []))) (sym (distinct-push same_item same_item_equiv front e))
 
 -- each first signal comes first among those of its item
-heads : (front : List (ℕ × Signal)) → All (λ f. (d : ℕ) → get_or (places_with front f) 0 d ≡ f.0) (distinct same_item front)
+pub heads : (front : List (ℕ × Signal)) → All (λ f. (d : ℕ) → get_or (places_with front f) 0 d ≡ f.0) (distinct same_item front)
 heads [] = All-nil (λ (f : ℕ × Signal). (d : ℕ) → get_or (places_with [] f) 0 d ≡ f.0)
 heads (x ∷ xs) =
     All-cons (λ (f : ℕ × Signal). (d : ℕ) → get_or (places_with (x ∷ xs) f) 0 d ≡ f.0) x (filter (λ y. not (same_item x y)) (distinct same_item xs))

@@ -9,5 +9,6 @@ pub mod Keys
 pub mod Laws
 pub mod Multiples
 pub mod Numbering
+pub mod OrderSteps
 pub mod Periods
 pub mod PlaceSteps

@@ -1,5 +1,5 @@
 -- The steps by which a problem's items are found: the project's own.
-use Rattle.std.specs.Prelude.{◌≡◌, ℕ, ◌+◌, List, [], ◌∷◌, ◌++◌, map, filter, sum_by, slice_index, slice_index_or, Option, None, Some, suc, zero}
+use Rattle.std.specs.Prelude.{◌≡◌, ℕ, ◌+◌, List, [], ◌∷◌, ◌++◌, map, filter, sum_by, slice_index, slice_index_or, Option, None, Some, suc, zero, ◌<◌, ◌≤◌, length, All}
 use Rattle.std.specs.List.{position_or_len}
 use Rattle.std.specs.Str.{bytes_eq}
 use Rattle.pack_model.specs.declared.signal.Signal.{Signal}
@@ -51,3 +51,9 @@ item_at signals senders places = record {
   members = places;
   bits = sum_by (slice_index (map (λ s. s.bits) signals)) places;
 }
+
+-- the places are some, at most 2048, and in the list
+pub record IsPlaces (signals : List Signal) (places : List ℕ) : Type 0 where
+  pub some : 0 < length places
+  pub short : length places ≤ 2048
+  pub inside : All (λ place. place < length signals) places

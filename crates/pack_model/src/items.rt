@@ -4,7 +4,7 @@ ghost use Rattle.std.specs.List.{list_any, position_or_len};
 ghost use Rattle.std.specs.List.Sorted.{IsPermutation};
 ghost use Rattle.std.specs.Str.{bytes_eq};
 ghost use Rattle.pack_model.specs.Signal.{SignalStands};
-ghost use Rattle.pack_model.specs.Items.{IsClash, key_at, put_at, places_by_item, item_at};
+ghost use Rattle.pack_model.specs.Items.{IsClash, IsPlaces, key_at, put_at, places_by_item, item_at};
 ghost use Rattle.pack_model.specs.Problem.{senders_of, items_in_order, by_sender, first_clash, is_too_large};
 ghost use Rattle.pack_model.specs.declared.problem.ProblemFault.TheVariants.{Memory as memory};
 
@@ -99,9 +99,7 @@ fn item_at(signals: &[Signal], senders: &IndexSet<Name>, places: Vec<u32>) -> It
     requires few { length signals.now ≤ 2048 }
     requires signals { All SignalStands signals.now }
     requires senders { senders.now.keys ≡ senders_of signals.now }
-    requires some { 0 < length places.items }
-    requires short { length places.items ≤ 2048 }
-    requires inside { All (λ place. place < length signals.now) places.items }
+    requires places { IsPlaces signals.now places.items }
     ensures { result ≡ item_at signals.now (senders_of signals.now) places.items }
 {
     let first = &signals[places[0] as usize];
