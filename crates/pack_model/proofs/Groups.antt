@@ -1,7 +1,7 @@
 -- Signals put into items one by one.
-use Rattle.std.proofs.Common.{◌≡◌, ◌≤◌, ◌<◌, ◌+◌, ◌⊎◌, inl, inr, ℕ, Bool, true, false, cond, filter, not, ◌||◌, ◌&&◌, List, [], ◌∷◌, ◌++◌, length, map, take, drop, get_or, suc, zero, nat_eq, Option, None, Some, if◌then◌else◌, refl, sym, ap, subst, ◌∙◌, arith, All, append-nil, true≢false}
+use Rattle.std.proofs.Common.{◌≡◌, ◌+◌, ◌⊎◌, inl, inr, ℕ, Bool, true, false, cond, filter, not, ◌||◌, List, [], ◌∷◌, ◌++◌, map, get_or, suc, Option, None, Some, if◌then◌else◌, refl, sym, ap, ◌∙◌, arith, All, append-nil, true≢false}
 use Rattle.std.specs.Cmp.{IsEquivalence, nat_eq_equiv}
-use Rattle.std.specs.List.{list_any, position_or_len, enumerate_from, IsDistinct, AllByRecursion}
+use Rattle.std.specs.List.{list_any, position_or_len, IsDistinct, AllByRecursion}
 use Rattle.std.proofs.lemmas.Bool.{not-true, or_parts}
 use Rattle.std.proofs.lemmas.List.{map-append}
 use Rattle.std.proofs.lemmas.List.Elements.{All-nil, All-cons, All-head, All-tail, All-from_recursion, recursion_from_All, All-filter, All-weaker, filter-append, filter_passes}
@@ -9,7 +9,7 @@ use Rattle.std.proofs.lemmas.Map.Keys.{IsDistinct-cons, IsDistinct-head, IsDisti
 use Rattle.indexmap.specs.IndexSet.{insert_key}
 use Rattle.pack_model.specs.declared.signal.Signal.{Signal}
 use Rattle.pack_model.specs.Items.{places_with, groups_of, put_at}
-use Rattle.pack_model.specs.Problem.{distinct, is_one_item, same_item, placed}
+use Rattle.pack_model.specs.Problem.{distinct, is_one_item, same_item}
 use Rattle.pack_model.proofs.Distinct.{distinct-push, list_any-distinct}
 
 -- the test whether two signals are of one item

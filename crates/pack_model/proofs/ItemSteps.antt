@@ -1,6 +1,6 @@
 -- The steps of the functions that find the items.
-use Rattle.std.proofs.Common.{◌≡◌, ◌≤◌, ◌<◌, ◌+◌, ◌*◌, ℕ, List, [], ◌∷◌, ◌++◌, length, map, take, get_or, sum_by, slice_index, suc, zero, refl, sym, ap, subst, ◌∙◌, arith, All, set}
-use Rattle.std.proofs.lemmas.List.{take_more, get_or-map, get_or_default}
+use Rattle.std.proofs.Common.{◌≡◌, ◌<◌, ◌+◌, ℕ, List, [], ◌∷◌, ◌++◌, length, map, take, get_or, sum_by, slice_index, suc, zero, sym, ap, ◌∙◌, arith, set}
+use Rattle.std.proofs.lemmas.List.{take_more, get_or-map}
 use Rattle.std.proofs.lemmas.List.Sums.{sum_by_push}
 use Rattle.pack_model.specs.declared.signal.Signal.{Signal}
 use Rattle.pack_model.specs.Items.{put_at}

@@ -12,3 +12,4 @@ pub mod Numbering
 pub mod OrderSteps
 pub mod Periods
 pub mod PlaceSteps
+pub mod ProblemSteps

@@ -1,10 +1,10 @@
 -- Least common multiples, and the common period of a list.
-use Rattle.std.proofs.Common.{◌≡◌, ◌≢◌, ◌≤◌, ◌<◌, ◌+◌, ◌*◌, ◌/◌, ◌%◌, ◌⊎◌, ℕ, Bool, true, false, List, [], ◌∷◌, suc, zero, fold, find, Option, Some, unwrap_or, nat_eq, refl, sym, ap, cond, subst, ◌∙◌, arith, inl, inr, true≢false, All}
+use Rattle.std.proofs.Common.{◌≡◌, ◌≤◌, ◌<◌, ◌+◌, ◌*◌, ◌/◌, ◌%◌, ◌⊎◌, ℕ, Bool, true, false, List, [], ◌∷◌, suc, zero, fold, find, Some, unwrap_or, nat_eq, refl, sym, ap, cond, subst, ◌∙◌, arith, inl, inr, true≢false, All}
 use Rattle.std.specs.List.{range_with_len}
 use Rattle.std.specs.Int.{IsGcd, ◌∣◌}
 use Rattle.std.proofs.lemmas.Bool.{cases_eq, eq-eqb, eqb-true}
 use Rattle.std.proofs.lemmas.List.Elements.{All-nil, All-cons, All-head, All-tail}
-use Rattle.std.proofs.Math.Nat.{dvd_refl, dvd-zero, dvd-mul_left, dvd-mul_right, dvd_trans, dvd-mul_right_of_dvd, dvd-add_iff_right, le_of_dvd, dvd_antisymm, pos_of_dvd_of_pos, mod-eq-zero_of_dvd, dvd_of_mod-eq-zero, mul-div_cancel', mod-lt, dvd_of_mul-dvd-mul_left, mul-dvd-mul_left, le_of_mul-le-mul_left, mul-le-mul_right, one-dvd, mul_comm}
+use Rattle.std.proofs.Math.Nat.{dvd_refl, dvd-mul_left, dvd-mul_right, dvd_trans, dvd-mul_right_of_dvd, dvd-add_iff_right, le_of_dvd, pos_of_dvd_of_pos, mod-eq-zero_of_dvd, dvd_of_mod-eq-zero, mul-div_cancel', mod-lt, dvd_of_mul-dvd-mul_left, mul-dvd-mul_left, le_of_mul-le-mul_left, mul-le-mul_right, one-dvd, mul_comm}
 use Rattle.pack_model.specs.Problem.{lcm, IsCommonPeriod}
 
 -- m is the least number from `low` on that passes

@@ -1,15 +1,15 @@
 -- The items in order, from the places of their signals.
-use Rattle.std.proofs.Common.{◌≡◌, ◌≤◌, ◌<◌, ◌+◌, ℕ, Bool, true, false, filter, List, [], ◌∷◌, ◌++◌, length, map, take, get_or, sum_by, slice_index, None, refl, sym, ap, subst, ◌∙◌, arith, All, append_assoc, append-nil}
+use Rattle.std.proofs.Common.{◌≡◌, ◌≤◌, ◌<◌, ◌+◌, ℕ, true, filter, List, [], ◌∷◌, ◌++◌, length, map, get_or, sum_by, slice_index, None, refl, sym, ap, subst, ◌∙◌, arith, All, append_assoc, append-nil}
 use Rattle.std.specs.List.{list_any, position_or_len, enumerate_from}
 use Rattle.std.specs.Str.{bytes_eq}
 use Rattle.std.proofs.lemmas.List.{take_all, length-map, get_or-map, get_or_default, nil_from_length}
-use Rattle.std.proofs.lemmas.List.FromFn.{length-enumerate_from, get_or-enumerate_from}
+use Rattle.std.proofs.lemmas.List.FromFn.{length-enumerate_from}
 use Rattle.std.proofs.lemmas.List.Sums.{sum_by-cons, length-filter, count_by-le-length}
 use Rattle.std.proofs.lemmas.List.Elements.{All-nil, All-cons, All-head, All-tail, All-map, All-filter}
 use Rattle.pack_model.specs.declared.signal.Signal.{Signal}
 use Rattle.pack_model.specs.declared.item.Item.{Item}
 use Rattle.pack_model.specs.Items.{places_with, places_by_item, item_at, IsPlaces}
-use Rattle.pack_model.specs.Problem.{placed, same_item, distinct, firsts_of, senders_of, item_of, items_in_order}
+use Rattle.pack_model.specs.Problem.{placed, same_item, firsts_of, senders_of, item_of, items_in_order}
 use Rattle.pack_model.proofs.Numbering.{senders_there, first_place}
 use Rattle.pack_model.proofs.Groups.{heads, All-distinct}
 use Rattle.pack_model.proofs.Clashes.{StandsBefore, placed_before}

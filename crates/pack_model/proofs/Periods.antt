@@ -1,5 +1,5 @@
 -- The steps of the loop over the periods of the signals.
-use Rattle.std.proofs.Common.{◌≡◌, ◌≤◌, ◌<◌, ◌+◌, ◌*◌, ℕ, List, ◌∷◌, length, fold, map, drop, get_or, refl, sym, ap, subst, ◌∙◌, arith, All}
+use Rattle.std.proofs.Common.{◌≡◌, ◌≤◌, ◌<◌, ◌+◌, ◌*◌, ℕ, List, length, fold, drop, get_or, sym, ap, subst, ◌∙◌, arith, All}
 use Rattle.std.proofs.lemmas.List.Elements.{All-map, All-drop}
 use Rattle.std.proofs.Math.Nat.{mul-le-mul}
 use Rattle.pack_model.specs.declared.network.Network.{Network}
