@@ -153,15 +153,15 @@ heads (x ∷ xs) =
 -- the first of the list that a place is put in: the place itself, or that of the first signal of the item
 first_in : (Q : ℕ × Signal → Type 0) (front fs : List (ℕ × Signal)) (e : ℕ × Signal) → All (λ f. (d : ℕ) → get_or (places_with front f) 0 d ≡ f.0) fs → All Q fs
     → ((list_any (same_item e) fs ≡ false) × (get_or (get_or (map (places_with front) fs) (position_or_len (same_item e) fs) []) 0 e.0 ≡ e.0))
-      ⊎ ((f : ℕ × Signal) × (same_item e f ≡ true) × Q f × (get_or (get_or (map (places_with front) fs) (position_or_len (same_item e) fs) []) 0 e.0 ≡ f.0))
+    ⊎ ((f : ℕ × Signal) × (same_item e f ≡ true) × Q f × (get_or (get_or (map (places_with front) fs) (position_or_len (same_item e) fs) []) 0 e.0 ≡ f.0))
 first_in Q front [] e heads all = inl (refl, refl)
 first_in Q front (f ∷ fs) e heads all = by (same_item e f) refl (first_in Q front fs e (All-tail (λ (f : ℕ × Signal). (d : ℕ) → get_or (places_with front f) 0 d ≡ f.0) f fs heads) (All-tail Q f fs all))
   where
     by : (b : Bool) → same_item e f ≡ b
         → ((list_any (same_item e) fs ≡ false) × (get_or (get_or (map (places_with front) fs) (position_or_len (same_item e) fs) []) 0 e.0 ≡ e.0))
-          ⊎ ((f : ℕ × Signal) × (same_item e f ≡ true) × Q f × (get_or (get_or (map (places_with front) fs) (position_or_len (same_item e) fs) []) 0 e.0 ≡ f.0))
+        ⊎ ((f : ℕ × Signal) × (same_item e f ≡ true) × Q f × (get_or (get_or (map (places_with front) fs) (position_or_len (same_item e) fs) []) 0 e.0 ≡ f.0))
         → ((list_any (same_item e) (f ∷ fs) ≡ false) × (get_or (get_or (map (places_with front) (f ∷ fs)) (position_or_len (same_item e) (f ∷ fs)) []) 0 e.0 ≡ e.0))
-          ⊎ ((g : ℕ × Signal) × (same_item e g ≡ true) × Q g × (get_or (get_or (map (places_with front) (f ∷ fs)) (position_or_len (same_item e) (f ∷ fs)) []) 0 e.0 ≡ g.0))
+        ⊎ ((g : ℕ × Signal) × (same_item e g ≡ true) × Q g × (get_or (get_or (map (places_with front) (f ∷ fs)) (position_or_len (same_item e) (f ∷ fs)) []) 0 e.0 ≡ g.0))
     by true same rest =
         inr (f, same, All-head Q f fs all, ap (λ b. get_or (get_or (map (places_with front) (f ∷ fs)) (cond (not b) (1 + position_or_len (same_item e) fs) 0) []) 0 e.0) same ∙ All-head (λ (f : ℕ × Signal). (d : ℕ) → get_or (places_with front f) 0 d ≡ f.0) f fs heads e.0)
     by false differ rest =
@@ -169,18 +169,18 @@ first_in Q front (f ∷ fs) e heads all = by (same_item e f) refl (first_in Q fr
         let on : get_or (get_or (map (places_with front) (f ∷ fs)) (position_or_len (same_item e) (f ∷ fs)) []) 0 e.0 ≡ get_or (get_or (map (places_with front) fs) (position_or_len (same_item e) fs) []) 0 e.0 =
         ap (λ b. get_or (get_or (map (places_with front) (f ∷ fs)) (cond (not b) (1 + position_or_len (same_item e) fs) 0) []) 0 e.0) differ ∙ ap (λ n. get_or (get_or (map (places_with front) (f ∷ fs)) n []) 0 e.0) next in
         elim rest [
-          inl none ↦ inl (ap (λ b. b || list_any (same_item e) fs) differ ∙ none.0, on ∙ none.1)
-        | inr some ↦ inr (some.0, some.1, some.2, on ∙ some.3)
+          | inl none ↦ inl (ap (λ b. b || list_any (same_item e) fs) differ ∙ none.0, on ∙ none.1)
+          | inr some ↦ inr (some.0, some.1, some.2, on ∙ some.3)
         ]
 
 -- the same of the lists of the signals so far
 pub first_found : (Q : ℕ × Signal → Type 0) (front : List (ℕ × Signal)) (e : ℕ × Signal) → All Q front
     → ((list_any (same_item e) front ≡ false) × (get_or (get_or (groups_of front) (position_or_len (same_item e) (distinct same_item front)) []) 0 e.0 ≡ e.0))
-      ⊎ ((f : ℕ × Signal) × (same_item e f ≡ true) × Q f × (get_or (get_or (groups_of front) (position_or_len (same_item e) (distinct same_item front)) []) 0 e.0 ≡ f.0))
+    ⊎ ((f : ℕ × Signal) × (same_item e f ≡ true) × Q f × (get_or (get_or (groups_of front) (position_or_len (same_item e) (distinct same_item front)) []) 0 e.0 ≡ f.0))
 first_found Q front e all =
     elim (first_in Q front (distinct same_item front) e (heads front) (All-distinct same_item Q front all)) [
-      inl none ↦ inl (sym (list_any-distinct same_item same_item_equiv e front) ∙ none.0, none.1)
-    | inr some ↦ inr some
+      | inl none ↦ inl (sym (list_any-distinct same_item same_item_equiv e front) ∙ none.0, none.1)
+      | inr some ↦ inr some
     ]
 
 -- numbering by keys that are equal where the signals are of one item

@@ -42,8 +42,7 @@ pub lcm_factor : (a b : ℕ) → 1 ≤ b → (m : ℕ) × (lcm a b ≡ a * m) ×
 unfolding lcm
 lcm_factor a b some =
     let all : nat_eq ((a * b) % b) 0 ≡ true = eq-eqb ((a * b) % b) 0 (mod-eq-zero_of_dvd b (dvd-mul_left b a)) in
-    let first = found (λ k. nat_eq ((a * k) % b) 0) b 1 b some (omega arith) all in
-    (
+    let first = found (λ k. nat_eq ((a * k) % b) 0) b 1 b some (omega arith) all in (
       first.0,
       ap (λ o. a * unwrap_or o b) first.1,
       record {

@@ -58,8 +58,8 @@ pub first_is : (signals : List Signal) (i : ℕ) (s : Signal) (number first : �
 first_is signals i s number first lists lt is so_far at =
     let here : first ≡ get_or (get_or (groups_of (take i (placed signals))) (position_or_len (same_item (i, s)) (firsts_before signals i)) []) 0 i = at ∙ ap (λ ls. get_or (get_or ls number []) 0 i) so_far ∙ ap (λ n. get_or (get_or (groups_of (take i (placed signals))) n []) 0 i) is in
     elim (first_found (StandsBefore signals i) (take i (placed signals)) (i, s) (placed_before signals i (omega arith))) [
-      inl none ↦ inl (none.0, here ∙ none.1)
-    | inr some ↦ inr (some.0, some.1, some.2, here ∙ some.3)
+      | inl none ↦ inl (none.0, here ∙ none.1)
+      | inr some ↦ inr (some.0, some.1, some.2, here ∙ some.3)
     ]
 
 -- the loop went over all signals

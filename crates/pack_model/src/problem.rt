@@ -215,3 +215,73 @@ fn numbered_senders(alloc: Global, signals: &[Signal]) -> Result<IndexSet<Name>,
     }
     Ok(senders)
 }
+
+#[cfg(test)]
+mod tests {
+    use super::*;
+    use crate::network::network_stands;
+    use crate::signal::signal_stands;
+    use std::test::Fail;
+
+    fn are_shared<T: Send + Sync>() {}
+
+    fn signal(
+        alloc: Global,
+        name: &[u8],
+        sender: &[u8],
+        pdu: Option<u32>,
+        bits: u32,
+        period_us: u32,
+    ) -> Result<Signal, Fail> {
+        Ok(Signal {
+            name: Name::new(alloc, name)?,
+            sender: Name::new(alloc, sender)?,
+            pdu,
+            bits,
+            period_us,
+            deadline_us: 10000,
+            jitter_us: 0,
+        })
+    }
+
+    #[test]
+    fn items_by_sender(rt: HostRuntime) -> Result<(), Fail> {
+        are_shared::<Problem>();
+        let network = Network {
+            ticks_per_us: 80,
+            nominal_ticks: 160,
+            data_ticks: 40,
+            first_id: 256,
+        };
+        let rows = [
+            (b"S1", b"E1", Some(7), 8, 10000),
+            (b"S2", b"E2", None, 3, 15000),
+            (b"S3", b"E1", Some(7), 5, 20000),
+        ];
+        let mut signals = Vec::new(rt.alloc());
+        for (name, sender, pdu, bits, period_us) in rows {
+            signals.push(signal(
+                rt.alloc(),
+                name.as_slice(),
+                sender.as_slice(),
+                pdu,
+                bits,
+                period_us,
+            )?)?;
+        }
+        assert!(rt; network_stands(&network) && signals.iter().all(signal_stands));
+        let problem = problem_of(rt.alloc(), network, signals)?;
+        let items = [
+            (0, Some(7), [0, 2].as_slice(), 13),
+            (1, None, [1].as_slice(), 3),
+        ];
+        assert_eq!(rt; problem.items().len(), items.len());
+        for (item, (sender, pdu, members, bits)) in problem.items().iter().zip(items) {
+            assert_eq!(rt; (item.sender, item.pdu, item.bits), (sender, pdu, bits));
+            assert_eq!(rt; item.members.as_slice(), members);
+        }
+        assert_eq!(rt; problem.senders().len(), 2);
+        assert_eq!(rt; problem.hyper(), 4_800_000);
+        Ok(())
+    }
+}
