@@ -1,10 +1,20 @@
 pub mod BySender
+pub mod Clashes
 pub mod Classes
 pub mod Distinct
 pub mod GroupingLaws
 mod GroupingValues
+pub mod Groups
 pub mod ItemFacts
+pub mod ItemSteps
+pub mod Keys
 pub mod Laws
 pub mod Moves
+pub mod Multiples
+pub mod Numbering
+pub mod OrderSteps
+pub mod Periods
+pub mod PlaceSteps
 pub mod PlacedLaws
 pub mod ProblemItems
+pub mod ProblemSteps

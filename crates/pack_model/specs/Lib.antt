@@ -1,5 +1,6 @@
 pub mod ClassTimes
 pub mod Grouping
+pub mod Items
 pub mod Name
 pub mod Network
 pub mod Problem

@@ -6,10 +6,12 @@
 #![tactic(auto)]
 
 mod item;
+mod items;
 mod lists;
 mod memory;
 mod name;
 mod network;
+mod period;
 mod problem;
 mod signal;
 

@@ -1,15 +1,18 @@
 //! The problem of a network and its signals.
-ghost use Rattle.std.specs.Prelude.{◌≡◌, All, position};
+ghost use Rattle.std.specs.Prelude.{◌≡◌, ◌≤◌, ◌⊎◌, [], All, length, IfOk, IfErr, None, position};
 ghost use Rattle.std.specs.Str.{bytes_eq};
 ghost use Rattle.pack_model.specs.Network.{NetworkStands};
 ghost use Rattle.pack_model.specs.Signal.{SignalStands};
-ghost use Rattle.pack_model.specs.Problem.{Answers, IsProblem, IsSorted, problem_of, names_of};
+ghost use Rattle.pack_model.specs.Problem.{Answers, IsCommonPeriod, IsProblem, IsSorted, problem_of, names_of, senders_of, periods_of, first_repeat};
+ghost use Rattle.pack_model.specs.Items.{IsRepeat};
 ghost use Rattle.pack_model.specs.declared.problem.ProblemFault.TheVariants.{Memory as memory};
 
 use crate::item::Item;
+use crate::items::{items_in_order, large_pdu, places_by_item, sort_by_sender};
 use crate::memory::Memory;
 use crate::name::Name;
 use crate::network::Network;
+use crate::period::common_period;
 use crate::signal::Signal;
 use indexmap::IndexSet;
 use std::alloc::{AllocError, AllocFailed, Global};
@@ -131,6 +134,8 @@ impl Problem {
     /// The common period of the signals in ticks: the least common multiple of their periods, 1 to 10^15.
     pub fn hyper(&self) -> u64
         ensures hyper { result ≡ self.now.hyper }
+        ensures common { IsCommonPeriod (periods_of self.now.network self.now.signals) result }
+        ensures high { result ≤ 1000000000000000 }
         ensures problem { IsProblem self.now }
     {
         self.hyper
@@ -154,5 +159,129 @@ pub fn problem_of(
     requires signals { All SignalStands signals.items }
     ensures { Answers result (problem_of network signals.items) }
 {
-    Err(ProblemFault::Memory)
+    if signals.is_empty() {
+        return Err(ProblemFault::NoSignals);
+    }
+    if signals.len() > 2048 {
+        return Err(ProblemFault::TooManySignals);
+    }
+    let names = numbered_names(alloc, signals.as_slice())?;
+    let places = places_by_item(alloc, signals.as_slice())?;
+    let senders = numbered_senders(alloc, signals.as_slice())?;
+    let mut items = items_in_order(alloc, signals.as_slice(), &senders, places)?;
+    if let Some(id) = large_pdu(items.as_slice()) {
+        return Err(ProblemFault::PduTooLarge(id));
+    }
+    if items.len() > 128 {
+        return Err(ProblemFault::TooManyItems);
+    }
+    let Some(hyper) = common_period(&network, signals.as_slice()) else {
+        return Err(ProblemFault::PeriodsMixed);
+    };
+    sort_by_sender(&mut items)?;
+    Ok(Problem {
+        network,
+        signals,
+        items,
+        senders,
+        names,
+        hyper,
+    })
+}
+
+/// The names of the signals, each at its signal's place, or the first row that is named twice.
+fn numbered_names(alloc: Global, signals: &[Signal]) -> Result<IndexSet<Name>, ProblemFault>
+    requires { length signals.now ≤ 2048 }
+    ensures names { IfOk result (λ names. (names.keys ≡ names_of signals.now) × (first_repeat [] (names_of signals.now) ≡ None)) }
+    ensures fault { IfErr result (λ e. (e ≡ memory) ⊎ IsRepeat (first_repeat [] (names_of signals.now)) e) }
+{
+    let mut names = IndexSet::new(alloc);
+    for (place, signal) in signals.iter().enumerate() {
+        let (_, is_new) = names.insert_full(signal.name.clone()?)?;
+        if !is_new {
+            return Err(ProblemFault::TwiceNamed(place as u32 + 2));
+        }
+    }
+    Ok(names)
+}
+
+/// The senders' names, by first place.
+fn numbered_senders(alloc: Global, signals: &[Signal]) -> Result<IndexSet<Name>, Memory>
+    ensures { IfOk result (λ senders. senders.keys ≡ senders_of signals.now) }
+{
+    let mut senders = IndexSet::new(alloc);
+    for signal in signals {
+        senders.insert_full(signal.sender.clone()?)?;
+    }
+    Ok(senders)
+}
+
+#[cfg(test)]
+mod tests {
+    use super::*;
+    use crate::network::network_stands;
+    use crate::signal::signal_stands;
+    use std::test::Fail;
+
+    fn are_shared<T: Send + Sync>() {}
+
+    fn signal(
+        alloc: Global,
+        name: &[u8],
+        sender: &[u8],
+        pdu: Option<u32>,
+        bits: u32,
+        period_us: u32,
+    ) -> Result<Signal, Fail> {
+        Ok(Signal {
+            name: Name::new(alloc, name)?,
+            sender: Name::new(alloc, sender)?,
+            pdu,
+            bits,
+            period_us,
+            deadline_us: 10000,
+            jitter_us: 0,
+        })
+    }
+
+    #[test]
+    fn items_by_sender(rt: HostRuntime) -> Result<(), Fail> {
+        are_shared::<Problem>();
+        let network = Network {
+            ticks_per_us: 80,
+            nominal_ticks: 160,
+            data_ticks: 40,
+            first_id: 256,
+        };
+        let rows = [
+            (b"S1", b"E1", Some(7), 8, 10000),
+            (b"S2", b"E2", None, 3, 15000),
+            (b"S3", b"E1", Some(7), 5, 20000),
+        ];
+        let mut signals = Vec::new(rt.alloc());
+        for (name, sender, pdu, bits, period_us) in rows {
+            signals.push(signal(
+                rt.alloc(),
+                name.as_slice(),
+                sender.as_slice(),
+                pdu,
+                bits,
+                period_us,
+            )?)?;
+        }
+        assert!(rt; network_stands(&network) && signals.iter().all(signal_stands));
+        let problem = problem_of(rt.alloc(), network, signals)?;
+        let items = [
+            (0, Some(7), [0, 2].as_slice(), 13),
+            (1, None, [1].as_slice(), 3),
+        ];
+        assert_eq!(rt; problem.items().len(), items.len());
+        for (item, (sender, pdu, members, bits)) in problem.items().iter().zip(items) {
+            assert_eq!(rt; (item.sender, item.pdu, item.bits), (sender, pdu, bits));
+            assert_eq!(rt; item.members.as_slice(), members);
+        }
+        assert_eq!(rt; problem.senders().len(), 2);
+        assert_eq!(rt; problem.hyper(), 4_800_000);
+        Ok(())
+    }
 }
