@@ -1,5 +1,5 @@
 -- What a certificate says, and which parts each kind has.
-use Rattle.std.specs.Prelude.{◌≡◌, List, [], Option, Some, None, IsSome}
+use Rattle.std.specs.Prelude.{◌≡◌, List, [], Option, None, IsSome}
 use Rattle.cert_text.specs.declared.parts.Kind.{Kind}
 use Rattle.cert_text.specs.declared.parts.Kind.TheVariants.{KindPlaced, KindTimed, KindBetween, KindBest, KindNoSolution}
 use Rattle.cert_text.specs.declared.parts.FrameLine.{FrameLine}
