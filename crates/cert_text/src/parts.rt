@@ -141,7 +141,9 @@ impl Cert {
 
     /// What it is to show.
     pub fn kind(&self) -> Kind
-        ensures { result ≡ self.now.kind }
+        ensures value { result ≡ self.now.kind }
+        // The parts are those that the kind has.
+        ensures has_parts { HasParts self.now.kind self.now.frames self.now.lemmas self.now.main_tree }
     {
         self.kind
     }
