@@ -34,7 +34,7 @@ numbers_of (word ∷ others) = option_and_then (λ n. option_map (λ ns. n ∷ n
 
 -- 1 to 256 numbers
 abbrev pub queue_of : List (List ℕ) → Option (List ℕ)
-queue_of others = if nat_le 1 (length others) && nat_le (length others) 256 then numbers_of others else None
+queue_of numerals = if nat_le 1 (length numerals) && nat_le (length numerals) 256 then numbers_of numerals else None
 
 -- the line of a frame: its busy period, and its starts
 abbrev pub frame_of : Option ℕ → Option (List ℕ) → Line

@@ -1,8 +1,8 @@
 //! What one line says.
-ghost use Rattle.std.specs.Prelude.{◌≡◌, [], IfOk};
+ghost use Rattle.std.specs.Prelude.{◌≡◌, IfOk};
 ghost use Rattle.std.specs.Option.{option_map};
 ghost use Rattle.cert_text.specs.Lines.{frame_in, line_of, number_of, queue_of, words};
-ghost use Rattle.cert_text.specs.Inside.{if_taken, with_word, with_words};
+ghost use Rattle.cert_text.specs.Inside.{if_taken, with_word};
 
 use crate::cut::cut_at;
 use crate::parts::FrameLine;
@@ -50,9 +50,10 @@ fn take_number(numbers: &mut Vec<u64>, word: &[u8]) -> Result<bool, Memory>
     Ok(true)
 }
 
-// The numbers of words.
-fn numbers_in(alloc: Global, text: &[u8]) -> Result<Option<Vec<u64>>, Memory>
-    ensures { IfOk result (λ found. option_map (λ v. v.items) found ≡ with_words [] (words text.now)) }
+// The numbers of words, where each is one and there are 1 to 256.
+#[tactic(auto, using(crate::proofs::Numbers::with_words_queue))]
+fn queue_in(alloc: Global, text: &[u8]) -> Result<Option<Vec<u64>>, Memory>
+    ensures { IfOk result (λ found. option_map (λ v. v.items) found ≡ queue_of (words text.now)) }
 {
     let mut numbers = Vec::new(alloc);
     let mut left = text;
@@ -66,14 +67,6 @@ fn numbers_in(alloc: Global, text: &[u8]) -> Result<Option<Vec<u64>>, Memory>
         return Ok(None);
     }
     Ok(Some(numbers))
-}
-
-// 1 to 256 numbers.
-#[tactic(auto, using(crate::proofs::Numbers::with_words_queue))]
-fn queue_in(alloc: Global, text: &[u8]) -> Result<Option<Vec<u64>>, Memory>
-    ensures { IfOk result (λ found. option_map (λ v. v.items) found ≡ queue_of (words text.now)) }
-{
-    numbers_in(alloc, text)
 }
 
 // The line of a frame.

@@ -1,7 +1,7 @@
 use Rattle.std.proofs.Common.{◌≡◌, [], length}
 use Rattle.cert_text.specs.Lines.{words}
 use Rattle.cert_text.specs.Inside.{with_words}
-use Rattle.cert_text.proofs.line.numbers_in.Given as goal
+use Rattle.cert_text.proofs.line.queue_in.Given as goal
 
 -- the words that are left decide
 abbrev pub invariant-loop-word : goal.invariant-loop-word
