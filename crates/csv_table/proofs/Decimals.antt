@@ -41,7 +41,7 @@ chosen_some true n P h = h refl
 chosen_some false n P h = tt
 
 -- what is read is spelled so, and in the range
-pub decimal_of-spelled : (low high : ℕ) (bytes : List ℕ) → high < 2 ^ 60 → IfSome (decimal_of low high bytes) (λ n. (bytes ≡ decimal n) × (low ≤ n) × (n ≤ high))
+pub decimal_of-spelled : (low high : ℕ) (bytes : List ℕ) → high < 2 ^ 64 → IfSome (decimal_of low high bytes) (λ n. (bytes ≡ decimal n) × (low ≤ n) × (n ≤ high))
 decimal_of-spelled low high bytes small =
     chosen_some _ (value_after 0 bytes) (λ n. (bytes ≡ decimal n) × (low ≤ n) × (n ≤ high)) (λ e.
     let outer = and_parts _ _ e in
@@ -63,7 +63,7 @@ lead (suc n) small =
     ored false = refl
 
 -- each spelling is read
-pub decimal_of-decimal : (low high n : ℕ) → high < 2 ^ 60 → low ≤ n → n ≤ high → decimal_of low high (decimal n) ≡ Some n
+pub decimal_of-decimal : (low high n : ℕ) → high < 2 ^ 64 → low ≤ n → n ≤ high → decimal_of low high (decimal n) ≡ Some n
 decimal_of-decimal low high n small above below =
     let fits : n < 2 ^ 64 = omega arith in
     let value : value_after 0 (decimal n) ≡ n = digits_value-decimal own n fits in

@@ -17,7 +17,7 @@ found_within : (low high k : ℕ) (bytes : List ℕ) (o : Option ℕ) → IfSome
 found_within low high k bytes None h = tt
 found_within low high k bytes (Some n) h = record { above = h.1; below = h.2 }
 
-pub number_within : (low high k : ℕ) (fields : List (List ℕ)) → high < 2 ^ 60 → IfOk (number_in low high k fields) (Within low high)
+pub number_within : (low high k : ℕ) (fields : List (List ℕ)) → high < 2 ^ 64 → IfOk (number_in low high k fields) (Within low high)
 number_within low high k fields small = found_within low high k (field_in k fields) (decimal_of low high (field_in k fields)) (decimal_of-spelled low high (field_in k fields) small)
 
 filled_within : (low high : ℕ) (r : Result ℕ ℕ) → IfOk r (Within low high) → IfOk (r >>= λ n. Ok (Some n)) (λ o. IfSome o (Within low high))
@@ -28,7 +28,7 @@ either_within : (low high : ℕ) (empty : Bool) (r : Result (Option ℕ) ℕ) �
 either_within low high true r h = tt
 either_within low high false r h = h
 
-pub optional_within : (low high k : ℕ) (fields : List (List ℕ)) → high < 2 ^ 60 → IfOk (optional_in low high k fields) (λ o. IfSome o (Within low high))
+pub optional_within : (low high k : ℕ) (fields : List (List ℕ)) → high < 2 ^ 64 → IfOk (optional_in low high k fields) (λ o. IfSome o (Within low high))
 optional_within low high k fields small =
     either_within low high (length (field_in k fields) == 0) (number_in low high k fields >>= λ n. Ok (Some n))
     (filled_within low high (number_in low high k fields) (number_within low high k fields small))
@@ -42,10 +42,10 @@ name_named k fields = named (field_in k fields) k (is_name (field_in k fields)) 
 
 -- ---- and back
 
-pub number_back : (low high k n : ℕ) (fields : List (List ℕ)) → field_in k fields ≡ decimal n → high < 2 ^ 60 → low ≤ n → n ≤ high → number_in low high k fields ≡ Ok n
+pub number_back : (low high k n : ℕ) (fields : List (List ℕ)) → field_in k fields ≡ decimal n → high < 2 ^ 64 → low ≤ n → n ≤ high → number_in low high k fields ≡ Ok n
 number_back low high k n fields e small above below = rw (e, decimal_of-decimal low high n small above below) refl
 
-pub optional_back : (low high k n : ℕ) (fields : List (List ℕ)) → field_in k fields ≡ decimal n → high < 2 ^ 60 → low ≤ n → n ≤ high → optional_in low high k fields ≡ Ok (Some n)
+pub optional_back : (low high k n : ℕ) (fields : List (List ℕ)) → field_in k fields ≡ decimal n → high < 2 ^ 64 → low ≤ n → n ≤ high → optional_in low high k fields ≡ Ok (Some n)
 optional_back low high k n fields e small above below =
     let some : (length (decimal n) == 0) ≡ false = ne_eqb _ _ (λ z. absurd (omega (arith, z, decimal_nonempty n (omega arith)))) in
     rw (e, some, decimal_of-decimal low high n small above below) refl

@@ -1,5 +1,5 @@
 //! The columns of a record.
-ghost use Rattle.std.specs.Prelude.{◌≡◌, ◌-◌, ◌==◌, ◌<◌, ◌≤◌, ◌^◌, ℕ, List, [], length, map, slice_index_or, IfOk};
+ghost use Rattle.std.specs.Prelude.{◌≡◌, ◌-◌, ◌==◌, ◌≤◌, ℕ, List, [], length, map, slice_index_or, IfOk};
 ghost use Rattle.std.specs.Str.{bytes_eq};
 ghost use Rattle.std.specs.Cmp.Lexicographic.{pointwise};
 ghost use Rattle.csv.specs.Records.{fields_of};
@@ -74,7 +74,6 @@ pub fn name_at(alloc: Global, row: &ByteRecord, column: u8) -> Result<Name, Colu
 
 /// A column with a decimal from `low` to `high`.
 pub fn wide_number_at(row: &ByteRecord, column: u8, low: u64, high: u64) -> Result<u64, ColumnFault>
-    requires { high < 2 ^ 60 }
     ensures exact { Gives (λ x. x) column_of result (number_in low high column (fields_of row.now)) }
     ensures in_range { IfOk result (λ n. n ≤ high) }
 {

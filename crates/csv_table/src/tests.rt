@@ -17,6 +17,8 @@ fn decimals(rt: HostRuntime) {
     ] {
         assert_eq!(rt; decimal_in(bytes, 1, 512), want);
     }
+    let most = b"18446744073709551615".as_slice();
+    assert_eq!(rt; decimal_in(most, 0, u64::MAX), Some(u64::MAX));
 }
 
 #[test]

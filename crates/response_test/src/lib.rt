@@ -8,6 +8,7 @@
 //! No call takes memory, and each returns for every stage.
 #![tactic(auto)]
 
+mod evidence;
 mod given;
 mod laws;
 mod queue;
@@ -15,6 +16,7 @@ mod queue;
 mod tests;
 mod written;
 
+pub use evidence::Evidence;
 pub use given::shown;
 pub use laws::{
     passing_is_being_shown, queueing_never_falls, shown_numbers_pass, test_depends_on_sets,
