@@ -1,82 +1,98 @@
--- The signals of each class, and the steps of the loop over the classes.
-use Rattle.std.proofs.Common.{◌≡◌, ℕ, ◌+◌, ◌<◌, ◌≤◌, List, [], ◌∷◌, ◌++◌, length, map, take, get_or, sum, sum_by, All, Option, refl, sym, ap, subst, ◌∙◌, arith, zero-add, append-nil}
-use Rattle.std.specs.List.{flat_map, filter_map, enumerate_from, range_with_len, slice_get}
-use Rattle.std.specs.Int.{div_ceil}
-use Rattle.std.proofs.lemmas.Grind.{div_ceil_times, flat_map-append}
+-- The items of each class by their numbers, and the steps of the loop over the classes.
+use Rattle.std.proofs.Common.{◌≡◌, ℕ, ◌+◌, ◌<◌, ◌≤◌, Bool, true, false, cond, List, [], ◌∷◌, ◌++◌, length, map, take, get_or, nat_eq, suc, All, Option, Some, refl, sym, ap, subst, ◌∙◌, arith, zero-add, append-nil}
+use Rattle.std.specs.List.{cons_option, flat_map, filter_map, enumerate_from, range_with_len, slice_get}
+use Rattle.std.proofs.lemmas.Grind.{flat_map-append}
 use Rattle.std.proofs.lemmas.List.{get_or-map, take_more}
-use Rattle.std.proofs.lemmas.List.Elements.{All-nil, All-cons, All-head, All-tail, All-append, filter_map-append}
-use Rattle.std.proofs.lemmas.List.FromFn.{get_or-map-range_with_len, length-enumerate_from, get_or-enumerate_from}
-use Rattle.std.proofs.lemmas.List.Sums.{sum_by-cons}
-use Rattle.pack_model.specs.declared.signal.Signal.{Signal}
+use Rattle.std.proofs.lemmas.List.FromFn.{get_or-map-range_with_len, get_or-range_with_len, length-enumerate_from, length-range_with_len, get_or-enumerate_from}
+use Rattle.std.proofs.lemmas.Option.{slice_get-get_or}
 use Rattle.pack_model.specs.declared.item.Item.{Item}
-use Rattle.pack_model.specs.Problem.{Parts}
-use Rattle.pack_model.specs.Grouping.{class_of, bits_of_class}
-use Rattle.pack_model.specs.ClassTimes.{signals_of_class}
-use Rattle.pack_model.proofs.GroupingLaws.{All-class_of}
-use Rattle.pack_model.proofs.ItemLaws.{IsItemOf}
-use Rattle.matrix_text.specs.LaidOut.{signals_at, places_of_class, widths_of, rows_of_class}
-use Rattle.matrix_text.proofs.FrameSteps.{signals_at-cons}
+use Rattle.pack_model.specs.Problem.{Parts, IsProblem}
+use Rattle.pack_model.specs.Grouping.{class_of, IsOrder}
+use Rattle.pack_model.proofs.GroupingLaws.{All-class_of, class_of-cons, length-order}
+use Rattle.pack_model.proofs.Laws.{tests}
+use Rattle.container_pdu.specs.Class.{ClassStands, IsLegal}
+use Rattle.matrix_text.specs.ClassItems.{items_at, numbers_of_class}
+use Rattle.matrix_text.specs.LaidOut.{rows_of_class}
+use Rattle.matrix_text.proofs.LaidSteps.{length_of_classes}
 
--- the places of items of signals are in the list
-places_inside : (signals : List Signal) (items : List Item) → All (IsItemOf signals) items → All (λ p. p < length signals) (flat_map (λ item. item.members) items)
-places_inside signals [] all = All-nil (λ p. p < length signals)
-places_inside signals (item ∷ items) all =
-    let of = All-head (IsItemOf signals) item items all in
-    All-append (λ p. p < length signals) item.members (flat_map (λ y. y.members) items)
-    (subst (λ (y : Item). All (λ p. p < length signals) y.members) (sym of.is) (All-cons (λ p. p < length signals) of.place [] of.within (All-nil (λ p. p < length signals))))
-    (places_inside signals items (All-tail (IsItemOf signals) item items all))
+module _ {X : Type 0} where
+  -- the elements of a class, by their numbers
+  pick-class : (k a : ℕ) (labels : List ℕ) (xs : List X) (h : ℕ → Option X) → length labels ≡ length xs → ((i : ℕ) (x : X) → i < length xs → x ≡ get_or xs i x → h (a + i) ≡ Some x) → filter_map h (class_of k labels (range_with_len a (length labels))) ≡ class_of k labels xs
+  pick-class k a [] [] h same at = refl
+  pick-class k a [] (x ∷ xs) h same at = absurd (omega arith)
+  pick-class k a (label ∷ labels) [] h same at = absurd (omega arith)
+  pick-class k a (label ∷ labels) (x ∷ xs) h same at =
+      ap (filter_map h) (class_of-cons k label labels a (range_with_len (a + 1) (length labels))) ∙ by (nat_eq label k) (pick-class k (a + 1) labels xs h (omega arith) (λ i y lt is. ap h (shifted i) ∙ at (suc i) y (omega arith) is)) ∙ sym (class_of-cons k label labels x xs)
+    where
+      shifted : (i : ℕ) → (a + 1) + i ≡ a + suc i
+      shifted i = omega arith
 
--- the places of a class are in the list
-pub class_inside : (signals : List Signal) (items : List Item) (labels : List ℕ) (k : ℕ) → All (IsItemOf signals) items → All (λ p. p < length signals) (places_of_class items labels k)
-class_inside signals items labels k all = places_inside signals (class_of k labels items) (All-class_of (IsItemOf signals) k labels items all)
+      here : a + 0 ≡ a
+      here = omega arith
 
--- an item's signal comes first
-signals_at-item : (signals : List Signal) (item : Item) (places : List ℕ) (of : IsItemOf signals item) → signals_at signals (item.members ++ places) ≡ of.signal ∷ signals_at signals places
-signals_at-item signals item places of =
-    ap (λ (y : Item). signals_at signals (y.members ++ places)) of.is ∙ signals_at-cons signals of.place places of.signal of.within of.at
+      by : (b : Bool) → filter_map h (class_of k labels (range_with_len (a + 1) (length labels))) ≡ class_of k labels xs → filter_map h (cond b (a ∷ class_of k labels (range_with_len (a + 1) (length labels))) (class_of k labels (range_with_len (a + 1) (length labels)))) ≡ cond b (x ∷ class_of k labels xs) (class_of k labels xs)
+      by true rest =
+          ap (λ o. cons_option o (filter_map h (class_of k labels (range_with_len (a + 1) (length labels))))) (ap h (sym here) ∙ at 0 x (omega arith) refl)
+          ∙ ap (λ ys. x ∷ ys) rest
+      by false rest = rest
 
--- what is added over the signals of items is added over the items
-pub sum_over_signals : (w : Signal → ℕ) (v : Item → ℕ) (signals : List Signal) (items : List Item) → All (IsItemOf signals) items → ((item : Item) (of : IsItemOf signals item) → v item ≡ w of.signal) → sum_by w (signals_at signals (flat_map (λ item. item.members) items)) ≡ sum_by v items
-sum_over_signals w v signals [] all same = refl
-sum_over_signals w v signals (item ∷ items) all same =
-    let of = All-head (IsItemOf signals) item items all in
-    ap (sum_by w) (signals_at-item signals item (flat_map (λ y. y.members) items) of)
-    ∙ sum_by-cons w of.signal (signals_at signals (flat_map (λ y. y.members) items))
-    ∙ ap (λ n. n + sum_by w (signals_at signals (flat_map (λ y. y.members) items))) (sym (same item of))
-    ∙ ap (λ n. v item + n) (sum_over_signals w v signals items (All-tail (IsItemOf signals) item items all) same)
-    ∙ sym (sum_by-cons v item items)
+  -- a class has no more elements than there are
+  pub length-class_of : (k : ℕ) (labels : List ℕ) (xs : List X) → length (class_of k labels xs) ≤ length xs
+  length-class_of k [] xs = omega arith
+  length-class_of k (label ∷ labels) [] = omega arith
+  length-class_of k (label ∷ labels) (x ∷ xs) = by (nat_eq label k) (ap length (class_of-cons k label labels x xs)) (length-class_of k labels xs)
+    where
+      by : (b : Bool) → length (class_of k (label ∷ labels) (x ∷ xs)) ≡ length (cond b (x ∷ class_of k labels xs) (class_of k labels xs)) → length (class_of k labels xs) ≤ length xs → length (class_of k (label ∷ labels) (x ∷ xs)) ≤ length (x ∷ xs)
+      by true same rest = omega arith
+      by false same rest = omega arith
 
-pub sum-map : {X : Type 0} (f : X → ℕ) (xs : List X) → sum (map f xs) ≡ sum_by f xs
-sum-map f [] = refl
-sum-map f (x ∷ xs) = sum_by-cons (λ y. y) (f x) (map f xs) ∙ ap (λ n. f x + n) (sum-map f xs) ∙ sym (sum_by-cons f x xs)
+-- the items with the numbers of a class are the class
+pub items_at-class : (items : List Item) (labels : List ℕ) (k : ℕ) → length labels ≡ length items → items_at items (numbers_of_class labels k) ≡ class_of k labels items
+items_at-class items labels k same =
+    pick-class k 0 labels items (slice_get items) same (λ i item lt at. ap (slice_get items) (zero-add i) ∙ slice_get-get_or items i item lt ∙ ap (λ y. Some y) (sym at))
 
--- the bits of a class's signals are those of its items
-pub widths_of_class : (signals : List Signal) (items : List Item) (labels : List ℕ) (k : ℕ) → All (IsItemOf signals) items → sum (widths_of (signals_at signals (places_of_class items labels k))) ≡ bits_of_class k labels items
-widths_of_class signals items labels k all =
-    sum-map (λ (s : Signal). s.bits) (signals_at signals (places_of_class items labels k))
-    ∙ sum_over_signals (λ s. s.bits) (λ item. item.bits) signals (class_of k labels items) (All-class_of (IsItemOf signals) k labels items all) (λ item of. ap (λ (y : Item). y.bits) of.is)
+-- the numbers of a class are those of elements
+pub numbers_inside : (labels : List ℕ) (k n : ℕ) → length labels ≡ n → All (λ number. number < n) (numbers_of_class labels k)
+numbers_inside labels k n same =
+    All-class_of (λ number. number < n) k labels (range_with_len 0 (length labels)) (λ i d lt.
+    let within : i < length labels = simp length-range_with_len at lt in
+    omega (arith, get_or-range_with_len 0 (length labels) i d within))
 
-filter_map-flat_map : {X Y Z : Type 0} (h : Y → Option Z) (f : X → List Y) (xs : List X) → filter_map h (flat_map f xs) ≡ flat_map (λ x. filter_map h (f x)) xs
-filter_map-flat_map h f [] = refl
-filter_map-flat_map h f (x ∷ xs) = filter_map-append h (f x) (flat_map f xs) ∙ ap (λ zs. filter_map h (f x) ++ zs) (filter_map-flat_map h f xs)
-
--- the signals at a class's places are its signals
-pub signals_at-class : (problem : Parts) (labels : List ℕ) (k : ℕ) → signals_at problem.signals (places_of_class problem.items labels k) ≡ signals_of_class problem labels k
-signals_at-class problem labels k = filter_map-flat_map (slice_get problem.signals) (λ (item : Item). item.members) (class_of k labels problem.items)
-
--- at most 64 bytes are at most 512 bits
-pub few_bits : (bits : ℕ) → div_ceil bits 8 ≤ 64 → bits ≤ 512
-few_bits bits few = omega (arith, div_ceil_times bits 8 (omega arith))
+-- and there are no more of them than labels
+pub length-numbers : (labels : List ℕ) (k : ℕ) → length (numbers_of_class labels k) ≤ length labels
+length-numbers labels k = omega (arith, length-class_of k labels (range_with_len 0 (length labels)), length-range_with_len 0 (length labels))
 
 -- the list of a class
-pub list_of_class : {X : Type 0} (vecs : List X) (f : X → List ℕ) (g : ℕ → List ℕ) (classes k : ℕ) (v : X) → map f vecs ≡ map g (range_with_len 0 classes) → k < classes → k < length vecs → v ≡ get_or vecs k v → f v ≡ g k
+pub list_of_class : {X Y : Type 0} (vecs : List X) (f : X → List Y) (g : ℕ → List Y) (classes k : ℕ) (v : X) → map f vecs ≡ map g (range_with_len 0 classes) → k < classes → k < length vecs → v ≡ get_or vecs k v → f v ≡ g k
 list_of_class vecs f g classes k v same lt within at =
     ap f at ∙ sym (get_or-map f vecs k v [] within) ∙ ap (λ ps. get_or ps k []) same ∙ get_or-map-range_with_len g 0 classes k k [] lt (omega arith)
+
+-- what the numbers of a class are
+pub record ClassNumbers (problem : Parts) (labels : List ℕ) (label : ℕ) (numbers : List ℕ) : Type 0 where
+  pub is : items_at problem.items numbers ≡ class_of label labels problem.items
+  pub inside : All (λ number. number < length problem.items) numbers
+  pub few : length numbers ≤ 128
+  pub stands : ClassStands (items_at problem.items numbers)
+
+-- so are those of the class that the order names at a place, as they are read from the lists of all classes
+pub class_numbers : {X : Type 0} (problem : Parts) (labels order : List ℕ) (vecs : List X) (f : X → List ℕ) (number : ℕ) (v : X) (numbers : List ℕ) → IsProblem problem → IsLegal problem labels → IsOrder labels order
+    → map f vecs ≡ map (numbers_of_class labels) (range_with_len 0 (length order)) → number < length order → v ≡ get_or vecs (get_or order number 0) v → numbers ≡ f v → ClassNumbers problem labels (get_or order number 0) numbers
+class_numbers problem labels order vecs f number v numbers stands legal named lists lt at read =
+    let long = length-order labels order named in
+    let below : get_or order number 0 < length order = omega (arith, named.only number 0 lt) in
+    let within : get_or order number 0 < length vecs = omega (arith, length_of_classes vecs f (numbers_of_class labels) (length order) lists) in
+    let here : numbers_of_class labels (get_or order number 0) ≡ numbers = sym (read ∙ list_of_class vecs f (numbers_of_class labels) (length order) (get_or order number 0) v lists below within at) in
+    let class = items_at-class problem.items labels (get_or order number 0) legal.grouping.each in
+    subst (ClassNumbers problem labels (get_or order number 0)) here (record {
+      is = class;
+      inside = numbers_inside labels (get_or order number 0) (length problem.items) legal.grouping.each;
+      few = omega (arith, length-numbers labels (get_or order number 0), legal.grouping.each, (tests problem stands).few_items);
+      stands = subst ClassStands (sym class) (legal.classes (get_or order number 0));
+    })
 
 -- the rows of one more class
 pub rows_more : (problem : Parts) (labels order : List ℕ) (number : ℕ) → number < length order → flat_map (rows_of_class problem labels) (take (number + 1) (enumerate_from 0 order)) ≡ flat_map (rows_of_class problem labels) (take number (enumerate_from 0 order)) ++ rows_of_class problem labels (number, get_or order number 0)
 rows_more problem labels order number lt =
-    let e : ℕ × ℕ = (0, 0) in
     let within : number < length (enumerate_from 0 order) = simp length-enumerate_from lt in
     ap (flat_map (rows_of_class problem labels)) (take_more (enumerate_from 0 order) number (0, 0) within)
     ∙ flat_map-append (rows_of_class problem labels) (take number (enumerate_from 0 order)) (get_or (enumerate_from 0 order) number (0, 0) ∷ [])

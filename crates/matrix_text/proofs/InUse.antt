@@ -4,7 +4,7 @@ use Rattle.std.specs.List.{list_any}
 use Rattle.std.proofs.lemmas.Bool.{ne_eqb}
 use Rattle.std.proofs.lemmas.List.{take_more_set, length-append}
 use Rattle.std.proofs.lemmas.List.Elements.{filter-append, filter_more}
-use Rattle.pack_model.proofs.Steps.{first_place}
+use Rattle.matrix_text.proofs.RowsFound.{first_place}
 use Rattle.matrix_text.specs.Frames.{label_in}
 use Rattle.matrix_text.specs.Tables.{no_label, in_use, label_or_none}
 

@@ -1,258 +1,308 @@
 -- A matrix that was laid out is placed.
-use Rattle.std.proofs.Common.{◌≡◌, ℕ, ◌+◌, ◌<◌, ◌≤◌, ◌⊎◌, Bool, true, false, cond, List, [], ◌∷◌, length, get_or, sum, sum_by, count_by, nat_eq, All, AllPairs, Any, inl, inr, refl, sym, ap, subst, ◌∙◌, arith, suc, zero, eq-eqb, add-zero, zero-add}
-use Rattle.std.specs.List.{enumerate_from, flat_map, position_or_len}
+use Rattle.std.proofs.Common.{◌≡◌, ◌≢◌, ℕ, ◌+◌, ◌*◌, ◌<◌, ◌≤◌, ◌⊎◌, true, false, List, [], length, get_or, take, filter, sum_by, count_by, nat_eq, nat_lt, is_some, All, Any, Option, Some, None, inl, inr, refl, sym, ap, subst, ◌∙◌, arith}
+use Rattle.std.specs.Prelude.{slice_index_or}
+use Rattle.std.specs.List.{position_or_len}
 use Rattle.std.specs.Str.{bytes_eq}
 use Rattle.std.specs.Cmp.Lexicographic.{nat_list_eq_equiv}
-use Rattle.std.proofs.lemmas.Slice.Eq.{bytes_eq-Decides}
+use Rattle.std.proofs.lemmas.Bool.{cases_lt, lt-ltb}
 use Rattle.std.proofs.lemmas.Grind.{div_ceil_times}
-use Rattle.std.proofs.lemmas.Bool.{ne_eqb}
-use Rattle.std.proofs.lemmas.List.{get_or-map, get_or_default, length-map}
-use Rattle.std.proofs.lemmas.List.Elements.{All-map, All-nil, All-cons, All-append}
-use Rattle.std.proofs.lemmas.List.FromFn.{length-enumerate_from, get_or-enumerate_from}
-use Rattle.std.proofs.lemmas.List.Sorted.{sum_by-IsPermutation}
-use Rattle.std.proofs.lemmas.List.Sums.{sum_by-cons, passes_at_first}
+use Rattle.std.proofs.lemmas.List.{length-map}
 use Rattle.pack_model.specs.declared.signal.Signal.{Signal}
 use Rattle.pack_model.specs.declared.item.Item.{Item}
-use Rattle.pack_model.specs.Problem.{Parts, IsProblem, IsSorted, senders_of, items_in_order, free_item}
-use Rattle.pack_model.specs.Grouping.{IsLegal, IsOrder, class_of}
-use Rattle.pack_model.specs.ClassTimes.{signals_of_class}
-use Rattle.pack_model.proofs.Laws.{element}
-use Rattle.pack_model.proofs.Steps.{first_place, sender_there}
-use Rattle.pack_model.proofs.GroupingLaws.{sum_by-classes, labels_once, All-class_of}
-use Rattle.pack_model.proofs.ItemLaws.{IsItemOf, items_of_signals}
-use Rattle.ipdu_layout.specs.Layout.{IsApart, bytes_of}
+use Rattle.pack_model.specs.Signal.{same_pdu}
+use Rattle.pack_model.specs.Problem.{Parts, IsProblem, IsSorted}
+use Rattle.pack_model.specs.Grouping.{IsOrder, class_of}
+use Rattle.pack_model.proofs.ItemFacts.{pdus_differ}
+use Rattle.container_pdu.specs.declared.header.Header.TheVariants.{NoHeader}
+use Rattle.container_pdu.specs.Bytes.{header_bytes}
+use Rattle.container_pdu.specs.Class.{IsLegal, header_of_items, is_pdu, bytes_of_item, bytes_of_items}
+use Rattle.fd_length.specs.Size.{fd_size_of}
+use Rattle.frame_ticks.specs.Worst.{worst_ticks_of}
+use Rattle.ipdu_layout.specs.Layout.{IsApart, start_of}
 use Rattle.ipdu_layout.proofs.Places.{IsApart-from_order}
 use Rattle.ipdu_layout.proofs.StartLaws.{start_of-after}
 use Rattle.matrix_text.specs.declared.matrix.MatrixRow.{MatrixRow}
-use Rattle.matrix_text.specs.Placed.{Placed, OneRow, RowOf, SameFrame, FrameFits, InsidePart, is_named, bits_in_frame, place_of}
-use Rattle.matrix_text.specs.LaidOut.{widths_of, size_of_frame, row_in_frame, rows_of_frame, rows_of_class, rows_of, signals_at}
-use Rattle.fd_length.specs.Size.{fd_size_of}
-use Rattle.frame_ticks.specs.Worst.{worst_ticks_of}
-use Rattle.matrix_text.proofs.PlacedLaws.{one_kind}
-use Rattle.matrix_text.proofs.RowsFound.{name_at, name_is, elsewhere}
-use Rattle.matrix_text.proofs.Counts.{count_only}
-use Rattle.matrix_text.proofs.SumLaws.{sum_by-map, sum_by-flat_map, sum_by-enumerate, sum_by-where, sum_by-same, All-flat_map, All-enumerate, AllPairs-append}
-use Rattle.matrix_text.proofs.FrameSteps.{signals_at-cons}
-use Rattle.matrix_text.proofs.ClassSteps.{sum-map}
-use Rattle.matrix_text.proofs.LaidRows.{IsLaid, all_laid, row_ends, class_sized, All-class}
+use Rattle.matrix_text.specs.Items.{is_named, at_of_item, items_in_frame}
+use Rattle.matrix_text.specs.LaidOut.{signals_at, widths_of, rows_of}
+use Rattle.matrix_text.specs.Placed.{Placed, OneRow, RowOf, SameFrame, InARow, FrameFits, InsidePart, bytes_before, part_bytes, place_of}
+use Rattle.matrix_text.proofs.Counts.{count_two}
+use Rattle.matrix_text.proofs.RowsFound.{name_at, name_is}
+use Rattle.matrix_text.proofs.ClassItems.{from_list}
+use Rattle.matrix_text.proofs.ClassBytes.{header_cases, at_headed, at_rises, filter-take, pairs_agree}
+use Rattle.matrix_text.proofs.PartItems.{none_item, bytes_with, at_after}
+use Rattle.matrix_text.proofs.LaidSums.{length-signals_at}
+use Rattle.matrix_text.proofs.LaidRows.{class_at, IsLaid, all_laid, one_each, in_list, row_name}
+use Rattle.matrix_text.proofs.LaidItems.{place_is, at_of_laid, items_in_frame_laid}
+use Rattle.matrix_text.proofs.LaidSeen.{IsSeen, seen, row_ends, free_part, pdu_bits, own_ends, class_sized}
 
--- nothing is added at a place before all of a numbered list
-sum_before : (a : ℕ) (w : ℕ → ℕ) (n : ℕ) (order : List ℕ) (m : ℕ) → m < n → sum_by (λ (e : ℕ × ℕ). cond (nat_eq (a + e.0) (a + m)) (w e.1) 0) (enumerate_from n order) ≡ 0
-sum_before a w n [] m lt = refl
-sum_before a w n (label ∷ order) m lt =
-    sum_by-cons (λ (e : ℕ × ℕ). cond (nat_eq (a + e.0) (a + m)) (w e.1) 0) (n, label) (enumerate_from (n + 1) order)
-    ∙ ap (λ b. cond b (w label) 0 + sum_by (λ (e : ℕ × ℕ). cond (nat_eq (a + e.0) (a + m)) (w e.1) 0) (enumerate_from (n + 1) order)) (ne_eqb (a + n) (a + m) (λ e. omega arith))
-    ∙ ap (λ k. 0 + k) (sum_before a w (n + 1) order m (omega arith))
-
--- what is added at one place of a numbered list
-sum_at : (a : ℕ) (w : ℕ → ℕ) (n : ℕ) (order : List ℕ) (k : ℕ) → k < length order → sum_by (λ (e : ℕ × ℕ). cond (nat_eq (a + e.0) (a + (n + k))) (w e.1) 0) (enumerate_from n order) ≡ w (get_or order k 0)
-sum_at a w n [] k lt = absurd (omega arith)
-sum_at a w n (label ∷ order) zero lt =
-    sum_by-cons (λ (e : ℕ × ℕ). cond (nat_eq (a + e.0) (a + (n + 0))) (w e.1) 0) (n, label) (enumerate_from (n + 1) order)
-    ∙ ap (λ b. cond b (w label) 0 + sum_by (λ (e : ℕ × ℕ). cond (nat_eq (a + e.0) (a + (n + 0))) (w e.1) 0) (enumerate_from (n + 1) order)) (eq-eqb (a + n) (a + (n + 0)) (omega arith))
-    ∙ ap (λ m. w label + m) (sum_before a w (n + 1) order (n + 0) (omega arith))
-    ∙ add-zero (w label)
-sum_at a w n (label ∷ order) (suc k) lt =
-    let next : n + suc k ≡ (n + 1) + k = omega arith in
-    ap (λ m. sum_by (λ (e : ℕ × ℕ). cond (nat_eq (a + e.0) (a + m)) (w e.1) 0) (enumerate_from n (label ∷ order))) next
-    ∙ sum_by-cons (λ (e : ℕ × ℕ). cond (nat_eq (a + e.0) (a + ((n + 1) + k))) (w e.1) 0) (n, label) (enumerate_from (n + 1) order)
-    ∙ ap (λ b. cond b (w label) 0 + sum_by (λ (e : ℕ × ℕ). cond (nat_eq (a + e.0) (a + ((n + 1) + k))) (w e.1) 0) (enumerate_from (n + 1) order)) (ne_eqb (a + n) (a + ((n + 1) + k)) (λ e. omega arith))
-    ∙ ap (λ m. 0 + m) (sum_at a w (n + 1) order k (omega arith))
-    ∙ zero-add (w (get_or order k 0))
-
--- sums over the rows of one frame
-sum_in_frame : (problem : Parts) (w : MatrixRow → ℕ) (v : Signal → ℕ) (id : ℕ) (signals : List Signal) → ((e : ℕ × Signal) → w (row_in_frame problem.network id signals e) ≡ v e.1) → sum_by w (rows_of_frame problem.network id signals) ≡ sum_by v signals
-sum_in_frame problem w v id signals same =
-    sum_by-map w (row_in_frame problem.network id signals) (enumerate_from 0 signals)
-    ∙ sum_by-same (λ e. w (row_in_frame problem.network id signals e)) (λ e. v e.1) (enumerate_from 0 signals) (λ k d lt. same (get_or (enumerate_from 0 signals) k d))
-    ∙ sum_by-enumerate v 0 signals
-
--- the bits of the rows of a frame
-pub bits_at : (problem : Parts) (labels order : List ℕ) (place : ℕ) → place < length order → bits_in_frame (rows_of problem labels order) (problem.network.first_id + place) ≡ sum (widths_of (signals_of_class problem labels (get_or order place 0)))
-bits_at problem labels order place lt =
-    sum_by-where (λ (r : MatrixRow). r.bits) (λ r. nat_eq r.id (problem.network.first_id + place)) (rows_of problem labels order)
-    ∙ sum_by-flat_map (λ (r : MatrixRow). cond (nat_eq r.id (problem.network.first_id + place)) r.bits 0) (rows_of_class problem labels) (enumerate_from 0 order)
-    ∙ sum_by-same (λ e. sum_by (λ (r : MatrixRow). cond (nat_eq r.id (problem.network.first_id + place)) r.bits 0) (rows_of_class problem labels e)) (λ e. cond (nat_eq (problem.network.first_id + e.0) (problem.network.first_id + (0 + place))) (sum (widths_of (signals_of_class problem labels e.1))) 0) (enumerate_from 0 order)
-    (λ k d lt. one_class (get_or (enumerate_from 0 order) k d))
-    ∙ sum_at problem.network.first_id (λ label. sum (widths_of (signals_of_class problem labels label))) 0 order place lt
-  where
-    chosen : (b : Bool) (f : Signal → ℕ) (signals : List Signal) → sum_by (λ s. cond b (f s) 0) signals ≡ cond b (sum_by f signals) 0
-    chosen true f signals = refl
-    chosen false f [] = refl
-    chosen false f (s ∷ signals) = sum_by-cons (λ (t : Signal). 0) s signals ∙ ap (λ n. 0 + n) (chosen false f signals)
-
-    one_class : (e : ℕ × ℕ) → sum_by (λ (r : MatrixRow). cond (nat_eq r.id (problem.network.first_id + place)) r.bits 0) (rows_of_class problem labels e) ≡ cond (nat_eq (problem.network.first_id + e.0) (problem.network.first_id + (0 + place))) (sum (widths_of (signals_of_class problem labels e.1))) 0
-    one_class e =
-        sum_in_frame problem (λ r. cond (nat_eq r.id (problem.network.first_id + place)) r.bits 0) (λ s. cond (nat_eq (problem.network.first_id + e.0) (problem.network.first_id + place)) s.bits 0) (problem.network.first_id + e.0) (signals_of_class problem labels e.1) (λ f. refl)
-        ∙ chosen (nat_eq (problem.network.first_id + e.0) (problem.network.first_id + place)) (λ s. s.bits) (signals_of_class problem labels e.1)
-        ∙ ap (λ n. cond (nat_eq (problem.network.first_id + e.0) (problem.network.first_id + place)) n 0) (sym (sum-map (λ (s : Signal). s.bits) (signals_of_class problem labels e.1)))
-        ∙ ap (λ m. cond (nat_eq (problem.network.first_id + e.0) (problem.network.first_id + m)) (sum (widths_of (signals_of_class problem labels e.1))) 0) (sym (zero-add place))
-
--- the sender of an item's signal is that of its number
-sender_name : (signals : List Signal) (item : Item) (of : IsItemOf signals item) → of.signal.sender ≡ get_or (senders_of signals) item.sender []
-sender_name signals item of =
-    let number : item.sender ≡ position_or_len (bytes_eq of.signal.sender) (senders_of signals) = ap (λ (y : Item). y.sender) of.is in
-    let there = first_place (bytes_eq of.signal.sender) (senders_of signals) (sender_there signals of.place of.signal of.within of.at) in
-    (bytes_eq-Decides of.signal.sender (get_or (senders_of signals) (position_or_len (bytes_eq of.signal.sender) (senders_of signals)) [])).0 (passes_at_first (bytes_eq of.signal.sender) (senders_of signals) [] there)
-    ∙ ap (λ n. get_or (senders_of signals) n []) (sym number)
-
--- items that agree in pairs in their sender have one
-one_number : (items : List Item) → AllPairs (λ item other. item.sender ≡ other.sender) items → (n : ℕ) × All (λ item. item.sender ≡ n) items
-one_number [] agree = (0, All-nil (λ (item : Item). item.sender ≡ 0))
-one_number (x ∷ xs) agree = (x.sender, All-cons (λ (item : Item). item.sender ≡ x.sender) x xs refl (λ k d lt. sym (agree 0 (suc k) d (omega arith) (omega arith))))
-
--- the row of a number in a frame
-row_at : (problem : Parts) (id : ℕ) (signals : List Signal) (i : ℕ) (d : MatrixRow) → i < length signals → (s : Signal) × (s ≡ get_or signals i s) × (get_or (rows_of_frame problem.network id signals) i d ≡ row_in_frame problem.network id signals (i, s))
-row_at problem id signals i d lt =
-    let found = element signals i lt in
-    let within : i < length (enumerate_from 0 signals) = simp length-enumerate_from lt in
-    (found.0, found.1, get_or-map (row_in_frame problem.network id signals) (enumerate_from 0 signals) i (i, found.0) d within ∙ ap (row_in_frame problem.network id signals) (get_or-enumerate_from 0 signals i (i, found.0) lt ∙ (λ k. (zero-add i k, sym found.1 k))))
-
--- the row stands before the other: in a frame of lower identifier, or in lower positions
-abbrev IsBefore : MatrixRow → MatrixRow → Type 0
-IsBefore row other = (row.id < other.id) ⊎ ((row.id ≡ other.id) × (row.start + row.bits ≤ other.start))
-
--- the rows of a frame stand in order
-frame_in_order : (problem : Parts) (id : ℕ) (signals : List Signal) → AllPairs IsBefore (rows_of_frame problem.network id signals)
-frame_in_order problem id signals = λ i j d before within.
-    let many : length (rows_of_frame problem.network id signals) ≡ length signals = simp (length-map, length-enumerate_from) in
-    two i j d before (omega arith)
-  where
-    two : (i j : ℕ) (d : MatrixRow) → i < j → j < length signals → IsBefore (get_or (rows_of_frame problem.network id signals) i d) (get_or (rows_of_frame problem.network id signals) j d)
-    two i j d before lt =
-        let low : i < length signals = omega arith in
-        let (s, at, is) = row_at problem id signals i d low in
-        let (t, _, is_other) = row_at problem id signals j d lt in
-        let width : get_or (widths_of signals) i 0 ≡ s.bits = get_or-map (λ (r : Signal). r.bits) signals i s 0 low ∙ ap (λ (r : Signal). r.bits) (sym at) in
-        let wide : j < length (widths_of signals) = simp length-map lt in
-        inr (
-          ap (λ (r : MatrixRow). r.id) is ∙ sym (ap (λ (r : MatrixRow). r.id) is_other),
-          omega (arith, ap (λ (r : MatrixRow). r.start + r.bits) is, ap (λ (r : MatrixRow). r.start) is_other, width, start_of-after (widths_of signals) i j before wide),
-        )
-
--- the rows of a frame have its identifier
-frame_ids : (problem : Parts) (id : ℕ) (signals : List Signal) → All (λ row. row.id ≡ id) (rows_of_frame problem.network id signals)
-frame_ids problem id signals = All-map (λ (row : MatrixRow). row.id ≡ id) (row_in_frame problem.network id signals) (enumerate_from 0 signals) (λ k d lt. refl)
-
--- those of later frames have greater ones
-later_ids : (problem : Parts) (labels : List ℕ) (n : ℕ) (order : List ℕ) → All (λ row. problem.network.first_id + n ≤ row.id) (flat_map (rows_of_class problem labels) (enumerate_from n order))
-later_ids problem labels n [] = All-nil (λ (row : MatrixRow). problem.network.first_id + n ≤ row.id)
-later_ids problem labels n (label ∷ order) =
-    All-append (λ (row : MatrixRow). problem.network.first_id + n ≤ row.id) (rows_of_class problem labels (n, label)) (flat_map (rows_of_class problem labels) (enumerate_from (n + 1) order))
-    (λ k d lt. omega (arith, frame_ids problem (problem.network.first_id + n) (signals_of_class problem labels label) k d lt))
-    (λ k d lt. omega (arith, later_ids problem labels (n + 1) order k d lt))
-
--- all rows stand in order
-rows_in_order : (problem : Parts) (labels : List ℕ) (n : ℕ) (order : List ℕ) → AllPairs IsBefore (flat_map (rows_of_class problem labels) (enumerate_from n order))
-rows_in_order problem labels n [] = λ i j d before lt. absurd (omega arith)
-rows_in_order problem labels n (label ∷ order) =
-    AllPairs-append IsBefore (rows_of_class problem labels (n, label)) (flat_map (rows_of_class problem labels) (enumerate_from (n + 1) order))
-    (frame_in_order problem (problem.network.first_id + n) (signals_of_class problem labels label))
-    (rows_in_order problem labels (n + 1) order)
-    (λ k d lt m e within. inl (omega (arith, frame_ids problem (problem.network.first_id + n) (signals_of_class problem labels label) k d lt, later_ids problem labels (n + 1) order m e within)))
-
--- signals that stand in order are apart
-apart : (row other : MatrixRow) → IsBefore row other → row.id ≡ other.id → IsApart (place_of row) (place_of other)
-apart row other (inl lower) same = absurd (omega arith)
-apart row other (inr (_, ends)) same = IsApart-from_order (place_of row) (place_of other) ends
+-- of numbers the first is not below
+not_below : (a b : ℕ) → b ≤ a → nat_lt a b ≡ false
+not_below a b le = grind (arith, le)
 
 module _ (problem : Parts) (labels order : List ℕ) (stands : IsProblem problem) (sorted : IsSorted problem.signals problem.items) (legal : IsLegal problem labels) (named : IsOrder labels order) where
-  -- the signals of a class have one sender
-  class_sender : (k : ℕ) → (name : List ℕ) × All (λ signal. signal.sender ≡ name) (signals_of_class problem labels k)
-  class_sender k =
-      let (n, all) = one_number (class_of k labels problem.items) (legal.classes k).one_sender in (
-        get_or (senders_of problem.signals) n [],
-        All-flat_map (λ signal. signal.sender ≡ get_or (senders_of problem.signals) n []) (λ item. signals_at problem.signals item.members) (class_of k labels problem.items)
-            (λ j d lt. of_item n (get_or (class_of k labels problem.items) j d) (All-class_of (IsItemOf problem.signals) k labels problem.items (items_of_signals problem.signals problem.items sorted) j d lt) (all j d lt)),
-      )
-    where
-      of_item : (n : ℕ) (item : Item) → IsItemOf problem.signals item → item.sender ≡ n → All (λ signal. signal.sender ≡ get_or (senders_of problem.signals) n []) (signals_at problem.signals item.members)
-      of_item n item of same =
-          let alone : signals_at problem.signals item.members ≡ of.signal ∷ [] = ap (λ (y : Item). signals_at problem.signals y.members) of.is ∙ signals_at-cons problem.signals of.place [] of.signal of.within of.at in
-          subst (All (λ signal. signal.sender ≡ get_or (senders_of problem.signals) n [])) (sym alone)
-          (All-cons (λ signal. signal.sender ≡ get_or (senders_of problem.signals) n []) of.signal [] (sender_name problem.signals item of ∙ ap (λ m. get_or (senders_of problem.signals) m []) same) (All-nil (λ signal. signal.sender ≡ get_or (senders_of problem.signals) n [])))
-
-  -- a row's sender is that of its class
-  row_sender : (row : MatrixRow) (laid : IsLaid problem labels order row) → row.sender ≡ (class_sender (get_or order laid.place 0)).0
-  row_sender row laid = ap (λ (r : MatrixRow). r.sender) laid.is ∙ ap (λ (s : Signal). s.sender) laid.at ∙ (class_sender (get_or order laid.place 0)).1 laid.number laid.signal laid.in_class
-
-  -- rows of one frame agree
-  same_frame : (row other : MatrixRow) → IsLaid problem labels order row → IsLaid problem labels order other → row.id ≡ other.id → SameFrame row other
-  same_frame row other laid another same =
-      let place : laid.place ≡ another.place = omega (arith, same, ap (λ (r : MatrixRow). r.id) laid.is, ap (λ (r : MatrixRow). r.id) another.is) in
-      record {
-        sender = row_sender row laid ∙ ap (λ p. (class_sender (get_or order p 0)).0) place ∙ sym (row_sender other another);
-        size = ap (λ (r : MatrixRow). r.size) laid.is ∙ ap (λ p. size_of_frame (signals_of_class problem labels (get_or order p 0))) place ∙ sym (ap (λ (r : MatrixRow). r.size) another.is);
-        ticks = ap (λ (r : MatrixRow). r.ticks) laid.is ∙ ap (λ p. worst_ticks_of problem.network (size_of_frame (signals_of_class problem labels (get_or order p 0)))) place ∙ sym (ap (λ (r : MatrixRow). r.ticks) another.is);
-        header = ap (λ (r : MatrixRow). r.header) laid.is ∙ sym (ap (λ (r : MatrixRow). r.header) another.is);
-      }
-
-  -- a frame has the size and the ticks of its bits
-  frame_fits : (row : MatrixRow) → IsLaid problem labels order row → FrameFits problem.network (rows_of problem labels order) row
-  frame_fits row laid =
-      subst (FrameFits problem.network (rows_of problem labels order)) (sym laid.is) (record {
-        size = ap (λ n. fd_size_of (bytes_of n)) (bits_at problem labels order laid.place laid.in_order) ∙ class_sized problem labels order stands sorted legal named (get_or order laid.place 0);
-        ticks = refl;
-      })
-
-  -- a signal lies in its frame
-  inside : (row : MatrixRow) → IsLaid problem labels order row → InsidePart (rows_of problem labels order) row
-  inside row laid =
-      subst (InsidePart (rows_of problem labels order)) (sym laid.is) (record {
-        from = omega arith;
-        below = omega (arith, row_ends problem labels order stands sorted legal named row laid, bits_at problem labels order laid.place laid.in_order, div_ceil_times (bits_in_frame (rows_of problem labels order) (problem.network.first_id + laid.place)) 8 (omega arith));
-      })
-
   -- a row is of a signal of the list
   of_a_signal : (row : MatrixRow) → IsLaid problem labels order row → Any (λ signal. RowOf signal row) problem.signals
-  of_a_signal row laid = by (All-class problem labels order stands sorted legal named (λ s. Any (λ t. t ≡ s) problem.signals) (get_or order laid.place 0) each laid.number laid.signal laid.in_class)
-    where
-      each : All (λ s. Any (λ t. t ≡ s) problem.signals) problem.signals
-      each k d lt = (k, get_or problem.signals k d, lt, get_or_default problem.signals k (get_or problem.signals k d) d lt, refl)
+  of_a_signal row laid = (
+    get_or laid.part.places laid.number 0,
+    laid.signal,
+    in_list problem labels order stands sorted legal named row laid,
+    sym laid.at,
+    record {
+      name = ap (λ (r : MatrixRow). r.signal) laid.is;
+      sender = ap (λ (r : MatrixRow). r.sender) laid.is;
+      pdu = ap (λ (r : MatrixRow). r.pdu) laid.is;
+      bits = ap (λ (r : MatrixRow). r.bits) laid.is;
+    },
+  )
 
-      by : Any (λ t. t ≡ get_or (signals_of_class problem labels (get_or order laid.place 0)) laid.number laid.signal) problem.signals → Any (λ signal. RowOf signal row) problem.signals
-      by (k, t, lt, at, is) =
-          let same : t ≡ laid.signal = is ∙ sym laid.at in
-          (k, t, lt, at, subst (λ s. RowOf s row) (sym same) (subst (RowOf laid.signal) (sym laid.is) (record { name = refl; sender = refl; pdu = refl; bits = refl })))
+  one_row : OneRow problem.signals (rows_of problem labels order)
+  one_row = record {
+    each = λ k d lt. ap (λ name. count_by (is_named name) (rows_of problem labels order)) (sym (name_is problem.signals k d lt)) ∙ one_each problem labels order stands sorted legal named k lt;
+    no_other = λ k d lt. of_a_signal (get_or (rows_of problem labels order) k d) (all_laid problem labels order sorted k d lt);
+  }
 
-  -- each signal has one row
-  one_each : All (λ signal. count_by (is_named signal.name) (rows_of problem labels order) ≡ 1) problem.signals
-  one_each k d lt =
-      counted_rows (get_or problem.signals k d).name
-      ∙ ap (λ name. count_by (λ (s : Signal). bytes_eq name s.name) problem.signals) (sym (name_is problem.signals k d lt))
-      ∙ count_only (λ (s : Signal). bytes_eq (name_at problem.signals k) s.name) problem.signals k lt
-      (λ e. ap (bytes_eq (name_at problem.signals k)) (sym (name_is problem.signals k e lt)) ∙ nat_list_eq_equiv.refl (name_at problem.signals k))
-      (λ j e below differ. ap (bytes_eq (name_at problem.signals k)) (sym (name_is problem.signals j e below)) ∙ elsewhere problem stands (name_at problem.signals j) j k below lt (λ same. differ (sym same)) (nat_list_eq_equiv.refl (name_at problem.signals j)))
-    where
-      counted_rows : (name : List ℕ) → count_by (is_named name) (rows_of problem labels order) ≡ count_by (λ (s : Signal). bytes_eq name s.name) problem.signals
-      counted_rows name =
-          sum_by-flat_map (λ (r : MatrixRow). cond (bytes_eq name r.signal) 1 0) (rows_of_class problem labels) (enumerate_from 0 order)
-          ∙ sum_by-same (λ e. sum_by (λ (r : MatrixRow). cond (bytes_eq name r.signal) 1 0) (rows_of_class problem labels e)) (λ e. sum_by (λ (s : Signal). cond (bytes_eq name s.name) 1 0) (signals_of_class problem labels e.1)) (enumerate_from 0 order)
-          (λ k d lt. one_frame (get_or (enumerate_from 0 order) k d))
-          ∙ sum_by-enumerate (λ label. sum_by (λ (s : Signal). cond (bytes_eq name s.name) 1 0) (signals_of_class problem labels label)) 0 order
-          ∙ sum_by-same (λ label. sum_by (λ (s : Signal). cond (bytes_eq name s.name) 1 0) (signals_of_class problem labels label)) (λ label. sum_by (λ (item : Item). sum_by (λ (s : Signal). cond (bytes_eq name s.name) 1 0) (signals_at problem.signals item.members)) (class_of label labels problem.items)) order
-          (λ k d lt. sum_by-flat_map (λ (s : Signal). cond (bytes_eq name s.name) 1 0) (λ (item : Item). signals_at problem.signals item.members) (class_of (get_or order k d) labels problem.items))
-          ∙ sum_by-classes (λ (item : Item). sum_by (λ (s : Signal). cond (bytes_eq name s.name) 1 0) (signals_at problem.signals item.members)) order labels problem.items legal.grouping.each (labels_once labels order named)
-          ∙ sum_by-IsPermutation (λ (item : Item). sum_by (λ (s : Signal). cond (bytes_eq name s.name) 1 0) (signals_at problem.signals item.members)) (items_in_order problem.signals) problem.items sorted
-          ∙ sum_by-map (λ (item : Item). sum_by (λ (s : Signal). cond (bytes_eq name s.name) 1 0) (signals_at problem.signals item.members)) (free_item (senders_of problem.signals)) (enumerate_from 0 problem.signals)
-          ∙ sum_by-same (λ e. sum_by (λ (s : Signal). cond (bytes_eq name s.name) 1 0) (signals_at problem.signals (e.0 ∷ []))) (λ e. cond (bytes_eq name e.1.name) 1 0) (enumerate_from 0 problem.signals)
-          (All-enumerate (λ e. sum_by (λ (s : Signal). cond (bytes_eq name s.name) 1 0) (signals_at problem.signals (e.0 ∷ [])) ≡ cond (bytes_eq name e.1.name) 1 0) problem.signals (λ k s lt at.
-          ap (sum_by (λ (t : Signal). cond (bytes_eq name t.name) 1 0)) (signals_at-cons problem.signals k [] s lt at) ∙ sum_by-cons (λ (t : Signal). cond (bytes_eq name t.name) 1 0) s [] ∙ add-zero (cond (bytes_eq name s.name) 1 0)))
-          ∙ sum_by-enumerate (λ (s : Signal). cond (bytes_eq name s.name) 1 0) 0 problem.signals
-        where
-          one_frame : (e : ℕ × ℕ) → sum_by (λ (r : MatrixRow). cond (bytes_eq name r.signal) 1 0) (rows_of_class problem labels e) ≡ sum_by (λ (s : Signal). cond (bytes_eq name s.name) 1 0) (signals_of_class problem labels e.1)
-          one_frame e = sum_in_frame problem (λ r. cond (bytes_eq name r.signal) 1 0) (λ s. cond (bytes_eq name s.name) 1 0) (problem.network.first_id + e.0) (signals_of_class problem labels e.1) (λ f. refl)
+  -- where a row is seen
+  seen_at : (k : ℕ) (d : MatrixRow) → k < length (rows_of problem labels order) → (place : ℕ) × (place < length order) × IsSeen problem labels order place (get_or (rows_of problem labels order) k d)
+  seen_at k d lt = seen problem labels order stands sorted legal named (get_or (rows_of problem labels order) k d) (all_laid problem labels order sorted k d lt)
 
-  pub laid_placed : Placed problem (rows_of problem labels order)
-  laid_placed =
-      let one : OneRow problem.signals (rows_of problem labels order) = record { each = one_each; no_other = λ k d lt. of_a_signal _ (all_laid problem labels order k d lt) } in
+  -- rows of one frame are of one class
+  record AreTogether (row other : MatrixRow) : Type 0 where
+    pub place : ℕ
+    pub in_order : place < length order
+    pub first : IsSeen problem labels order place row
+    pub second : IsSeen problem labels order place other
+
+  together : (i j : ℕ) (d : MatrixRow) → i < j → j < length (rows_of problem labels order) → (get_or (rows_of problem labels order) i d).id ≡ (get_or (rows_of problem labels order) j d).id → AreTogether (get_or (rows_of problem labels order) i d) (get_or (rows_of problem labels order) j d)
+  together i j d before lt same =
+      let (p, in_order, is) = seen_at i d (omega arith) in
+      let (q, also_in, also) = seen_at j d lt in
+      let place : q ≡ p = omega (arith, same, is.id, also.id) in
+      record { place = p; in_order = in_order; first = is; second = subst (λ n. IsSeen problem labels order n (get_or (rows_of problem labels order) j d)) place also }
+
+  same_frame : (row other : MatrixRow) → AreTogether row other → SameFrame row other
+  same_frame row other both =
+      let is = both.first in
+      let also = both.second in
       record {
-        one_row = one;
-        frames_agree = λ i j d before within. same_frame _ _ (all_laid problem labels order i d (omega arith)) (all_laid problem labels order j d within);
-        one_kind = one_kind problem stands (rows_of problem labels order) one;
-        header_kind = λ k d lt. ap (λ (r : MatrixRow). r.header) (all_laid problem labels order k d lt).is;
-        parts_in_a_row = λ k d lt. ap (λ (r : MatrixRow). r.at) (all_laid problem labels order k d lt).is;
-        size_and_ticks = λ k d lt. frame_fits _ (all_laid problem labels order k d lt);
-        inside_the_part = λ k d lt. inside _ (all_laid problem labels order k d lt);
-        no_overlap = λ i j d before within. apart (get_or (rows_of problem labels order) i d) (get_or (rows_of problem labels order) j d) (rows_in_order problem labels 0 order i j d before within);
+        sender = is.sender
+            ∙ ap (λ n. slice_index_or problem.senders n []) (pairs_agree (λ (y : Item). y.sender) (class_at problem labels order both.place) (legal.classes (get_or order both.place 0)).one_sender is.item also.item none_item is.within also.within)
+            ∙ sym also.sender;
+        size = is.size ∙ sym also.size;
+        ticks = is.ticks ∙ sym also.ticks;
+        header = is.header ∙ sym also.header;
       }
+
+  same_kind : (row other : MatrixRow) → AreTogether row other → is_some row.pdu ≡ is_some other.pdu
+  same_kind row other both =
+      ap is_some both.first.pdu
+      ∙ pairs_agree is_pdu (class_at problem labels order both.place) (legal.classes (get_or order both.place 0)).one_kind both.first.item both.second.item none_item both.first.within both.second.within
+      ∙ ap is_some (sym both.second.pdu)
+
+  -- rows of one I-PDU are in one part
+  same_part : (row other : MatrixRow) (p q : ℕ) → p < length order → q < length order → IsSeen problem labels order p row → IsSeen problem labels order q other → (o : Option ℕ) → row.pdu ≡ o → is_some o ≡ true → row.pdu ≡ other.pdu → (row.id ≡ other.id) × (row.at ≡ other.at)
+  same_part row other p q lt lt2 is also None none some same = absurd (let wrong : false ≡ true = some in cc)
+  same_part row other p q lt lt2 is also (Some pdu) has some same =
+      let from = from_list (get_or order p 0) labels problem.items is.item is.within in
+      let from2 = from_list (get_or order q 0) labels problem.items also.item also.within in
+      let number : from.number ≡ from2.number = pdus_differ problem.signals problem.items sorted from.number from2.number pdu none_item from.within from2.within
+      (ap (λ (y : Item). y.pdu) (sym (from.same none_item)) ∙ sym is.pdu ∙ has) (ap (λ (y : Item). y.pdu) (sym (from2.same none_item)) ∙ sym also.pdu ∙ sym same ∙ has) in
+      let label : get_or order p 0 ≡ get_or order q 0 = sym from.labelled ∙ ap (λ n. get_or labels n 0) number ∙ from2.labelled in
+      let place : p ≡ q = sym (place_is labels order named p lt) ∙ ap (λ l. position_or_len (nat_eq l) order) label ∙ place_is labels order named q lt2 in (
+        is.id ∙ ap (λ n. problem.network.first_id + n) place ∙ sym also.id,
+        is.begins
+            ∙ ap (at_after (header_of_items (class_at problem labels order p))) from.before
+            ∙ ap (λ l. at_after (header_of_items (class_of l labels problem.items)) (class_of l (take from.number labels) (take from.number problem.items))) label
+            ∙ ap (λ n. at_after (header_of_items (class_at problem labels order q)) (class_of (get_or order q 0) (take n labels) (take n problem.items))) number
+            ∙ ap (at_after (header_of_items (class_at problem labels order q))) (sym from2.before)
+            ∙ sym also.begins,
+      )
+
+  -- the items of a row's frame are those of its class
+  frame_items : (place : ℕ) → place < length order → (row : MatrixRow) → IsSeen problem labels order place row → items_in_frame problem (rows_of problem labels order) row.id ≡ class_at problem labels order place
+  frame_items place lt row is = ap (items_in_frame problem (rows_of problem labels order)) is.id ∙ items_in_frame_laid problem labels order stands sorted legal named place lt
+
+  -- the part of an item of a class begins after those of the items before it
+  at_in_class : (place : ℕ) (k : ℕ) (d : Item) → k < length (class_at problem labels order place) → at_of_item problem (rows_of problem labels order) (get_or (class_at problem labels order place) k d) ≡ at_after (header_of_items (class_at problem labels order place)) (take k (class_at problem labels order place))
+  at_in_class place k d lt =
+      let from = from_list (get_or order place 0) labels problem.items k lt in
+      ap (λ (y : Item). at_of_item problem (rows_of problem labels order) y) (from.same d)
+      ∙ at_of_laid problem labels order stands sorted legal named from.number d from.within
+      ∙ ap (λ l. at_after (header_of_items (class_of l labels problem.items)) (class_of l (take from.number labels) (take from.number problem.items))) from.labelled
+      ∙ ap (at_after (header_of_items (class_at problem labels order place))) (sym from.before)
+
+  module _ (place : ℕ) (in_order : place < length order) (row : MatrixRow) (is : IsSeen problem labels order place row) where
+    header_kind : row.header ≡ header_of_items (items_in_frame problem (rows_of problem labels order) row.id)
+    header_kind = is.header ∙ ap header_of_items (sym (frame_items place in_order row is))
+
+    -- the items whose parts begin before a row's part are those before its item
+    before_row : (header_of_items (class_at problem labels order place) ≡ NoHeader → ⊥) → filter (λ item. nat_lt (at_of_item problem (rows_of problem labels order) item) row.at) (class_at problem labels order place) ≡ take is.item (class_at problem labels order place)
+    before_row differ =
+        filter-take (λ item. nat_lt (at_of_item problem (rows_of problem labels order) item) row.at) (class_at problem labels order place) is.item
+        (λ j d lt within. lt-ltb (at_of_item problem (rows_of problem labels order) (get_or (class_at problem labels order place) j d)) row.at
+        (omega (arith, at_in_class place j d within, is.begins, at_rises (header_of_items (class_at problem labels order place)) (class_at problem labels order place) j is.item differ lt (omega (arith, is.within)))))
+        (λ j d le within. not_below (at_of_item problem (rows_of problem labels order) (get_or (class_at problem labels order place) j d)) row.at (later j d within (cases_lt is.item j) le))
+      where
+        later : (j : ℕ) (d : Item) → j < length (class_at problem labels order place) → (is.item < j) ⊎ (j ≤ is.item) → is.item ≤ j → row.at ≤ at_of_item problem (rows_of problem labels order) (get_or (class_at problem labels order place) j d)
+        later j d within (inl lt) le =
+            omega (arith, at_in_class place j d within, is.begins, at_rises (header_of_items (class_at problem labels order place)) (class_at problem labels order place) is.item j differ lt (omega (arith, within)))
+        later j d within (inr ge) le =
+            let same : is.item ≡ j = omega arith in
+            omega (arith, at_in_class place j d within, is.begins, ap (λ k. at_after (header_of_items (class_at problem labels order place)) (take k (class_at problem labels order place))) same)
+
+    in_a_row : InARow problem (rows_of problem labels order) row
+    in_a_row = record {
+      alone = λ none. is.begins ∙ ap (λ h. at_after h (take is.item (class_at problem labels order place))) (sym is.header ∙ none);
+      among = λ differ.
+          let headed : header_of_items (class_at problem labels order place) ≡ NoHeader → ⊥ = λ e. differ (is.header ∙ e) in
+          let bytes : bytes_before problem (rows_of problem labels order) row.id row.at ≡ bytes_with (header_of_items (class_at problem labels order place)) (take is.item (class_at problem labels order place)) =
+          ap (λ ys. sum_by (λ item. header_bytes (header_of_items ys) + bytes_of_item item) (filter (λ item. nat_lt (at_of_item problem (rows_of problem labels order) item) row.at) ys)) (frame_items place in_order row is)
+          ∙ ap (sum_by (λ item. header_bytes (header_of_items (class_at problem labels order place)) + bytes_of_item item)) (before_row headed) in
+          is.begins
+          ∙ (at_headed (header_of_items (class_at problem labels order place)) (take is.item (class_at problem labels order place)) headed).0
+          ∙ ap (λ h. header_bytes h + bytes_with (header_of_items (class_at problem labels order place)) (take is.item (class_at problem labels order place))) (sym is.header)
+          ∙ ap (λ n. header_bytes row.header + n) (sym bytes);
+    }
+
+    frame_fits : FrameFits problem (rows_of problem labels order) row
+    frame_fits = record {
+      size = ap (λ ys. fd_size_of (bytes_of_items ys)) (frame_items place in_order row is) ∙ class_sized problem labels order stands sorted legal named place ∙ ap (λ n. Some n) (sym is.size);
+      ticks = is.ticks ∙ ap (worst_ticks_of problem.network) (sym is.size);
+    }
+
+    inside_part : InsidePart problem (rows_of problem labels order) row
+    inside_part = record { from = omega (arith, is.starts); below = by row.pdu refl }
+      where
+        by : (o : Option ℕ) → row.pdu ≡ o → row.start + row.bits ≤ 8 * (row.at + part_bytes problem (rows_of problem labels order) row.id o)
+        by None none =
+            omega (arith, row_ends problem labels order stands sorted legal named place row is, free_part problem labels order stands sorted legal named place row is none, ap bytes_of_items (frame_items place in_order row is))
+        by (Some pdu) some =
+            omega (
+              arith,
+              row_ends problem labels order stands sorted legal named place row is,
+              pdu_bits problem labels order stands sorted legal named place row is pdu some,
+              div_ceil_times (sum_by (λ (s : Signal). s.bits) (filter (λ (s : Signal). same_pdu (Some pdu) s.pdu) problem.signals)) 8 (omega arith),
+            )
+
+  module _ (row other : MatrixRow) (both : AreTogether row other) where
+    begin_apart : row.header ≢ NoHeader → row.at ≡ other.at → row.pdu ≡ other.pdu
+    begin_apart differ same = by (cases_lt both.first.item both.second.item) (cases_lt both.second.item both.first.item)
+      where
+        headed : header_of_items (class_at problem labels order both.place) ≡ NoHeader → ⊥
+        headed e = differ (both.first.header ∙ e)
+
+        by : (both.first.item < both.second.item) ⊎ (both.second.item ≤ both.first.item) → (both.second.item < both.first.item) ⊎ (both.first.item ≤ both.second.item) → row.pdu ≡ other.pdu
+        by (inl lt) _ =
+            absurd (omega (arith, same, both.first.begins, both.second.begins, at_rises (header_of_items (class_at problem labels order both.place)) (class_at problem labels order both.place) both.first.item both.second.item headed lt (omega (arith, both.second.within))))
+        by (inr ge) (inl gt) =
+            absurd (omega (arith, same, both.first.begins, both.second.begins, at_rises (header_of_items (class_at problem labels order both.place)) (class_at problem labels order both.place) both.second.item both.first.item headed gt (omega (arith, both.first.within))))
+        by (inr ge) (inr le) =
+            let one : both.first.item ≡ both.second.item = omega arith in
+            both.first.pdu ∙ ap (λ k. (get_or (class_at problem labels order both.place) k none_item).pdu) one ∙ sym both.second.pdu
+
+    -- signals of one part are apart
+    apart_in_part : both.first.places ≡ both.second.places → row.at ≡ other.at → (get_or both.first.places both.first.number 0 ≡ get_or both.second.places both.second.number 0 → ⊥) → IsApart (place_of row) (place_of other)
+    apart_in_part part at differ = by (cases_lt both.first.number both.second.number) (cases_lt both.second.number both.first.number)
+      where
+        long : (places : List ℕ) → All (λ m. m < length problem.signals) places → length (widths_of (signals_at problem.signals places)) ≡ length places
+        long places inside = omega (arith, length-signals_at problem.signals places inside, length-map (signals_at problem.signals places) (λ (s : Signal). s.bits))
+
+        by : (both.first.number < both.second.number) ⊎ (both.second.number ≤ both.first.number) → (both.second.number < both.first.number) ⊎ (both.first.number ≤ both.second.number) → IsApart (place_of row) (place_of other)
+        by (inl lt) _ =
+            IsApart-from_order (place_of row) (place_of other)
+            (omega (
+              arith,
+              both.first.starts,
+              both.first.bits,
+              both.second.starts,
+              at,
+              ap (λ ms. start_of (widths_of (signals_at problem.signals ms)) both.second.number) part,
+              start_of-after (widths_of (signals_at problem.signals both.first.places)) both.first.number both.second.number lt
+                  (omega (arith, long both.first.places both.first.all_in, both.second.in_part, ap length part)),
+            ))
+        by (inr ge) (inl gt) =
+            λ position first second. IsApart-from_order (place_of other) (place_of row)
+            (omega (
+              arith,
+              both.first.starts,
+              both.second.bits,
+              both.second.starts,
+              at,
+              ap (λ ms. start_of (widths_of (signals_at problem.signals ms)) both.first.number) part,
+              start_of-after (widths_of (signals_at problem.signals both.second.places)) both.second.number both.first.number gt
+                  (omega (arith, long both.second.places both.second.all_in, both.first.in_part, ap length part)),
+            )) position second first
+        by (inr ge) (inr le) =
+            let one : both.first.number ≡ both.second.number = omega arith in
+            absurd (differ (ap (λ n. get_or both.first.places n 0) one ∙ ap (λ ms. get_or ms both.second.number 0) part))
+
+    -- signals of one frame are apart
+    apart_in_frame : (get_or both.first.places both.first.number 0 ≡ get_or both.second.places both.second.number 0 → ⊥) → IsApart (place_of row) (place_of other)
+    apart_in_frame differ = by (header_cases (header_of_items (class_at problem labels order both.place)))
+      where
+        headed : (header_of_items (class_at problem labels order both.place) ≡ NoHeader → ⊥) → (both.first.item < both.second.item) ⊎ (both.second.item ≤ both.first.item) → (both.second.item < both.first.item) ⊎ (both.first.item ≤ both.second.item) → IsApart (place_of row) (place_of other)
+        headed some (inl lt) _ =
+            IsApart-from_order (place_of row) (place_of other)
+            (omega (
+              arith,
+              own_ends problem labels order stands sorted legal named both.place row both.first some,
+              both.first.begins,
+              both.second.begins,
+              both.second.starts,
+              at_rises (header_of_items (class_at problem labels order both.place)) (class_at problem labels order both.place) both.first.item both.second.item some lt (omega (arith, both.second.within)),
+            ))
+        headed some (inr ge) (inl gt) =
+            λ position first second. IsApart-from_order (place_of other) (place_of row)
+            (omega (
+              arith,
+              own_ends problem labels order stands sorted legal named both.place other both.second some,
+              both.first.begins,
+              both.second.begins,
+              both.first.starts,
+              at_rises (header_of_items (class_at problem labels order both.place)) (class_at problem labels order both.place) both.second.item both.first.item some gt (omega (arith, both.first.within)),
+            )) position second first
+        headed some (inr ge) (inr le) =
+            let one : both.first.item ≡ both.second.item = omega arith in
+            apart_in_part (both.first.own some ∙ ap (λ k. (get_or (class_at problem labels order both.place) k none_item).members) one ∙ sym (both.second.own some))
+            (both.first.begins ∙ ap (λ k. at_after (header_of_items (class_at problem labels order both.place)) (take k (class_at problem labels order both.place))) one ∙ sym both.second.begins) differ
+
+        by : (header_of_items (class_at problem labels order both.place) ≡ NoHeader) ⊎ (header_of_items (class_at problem labels order both.place) ≡ NoHeader → ⊥) → IsApart (place_of row) (place_of other)
+        by (inl none) =
+            apart_in_part (both.first.whole none ∙ sym (both.second.whole none))
+            (both.first.begins ∙ ap (λ h. at_after h (take both.first.item (class_at problem labels order both.place))) none ∙ sym (both.second.begins ∙ ap (λ h. at_after h (take both.second.item (class_at problem labels order both.place))) none)) differ
+        by (inr some) = headed some (cases_lt both.first.item both.second.item) (cases_lt both.second.item both.first.item)
+
+  -- no two rows are of one signal
+  no_two : (i j : ℕ) (d : MatrixRow) → i < j → j < length (rows_of problem labels order) → (get_or (rows_of problem labels order) i d).signal ≡ (get_or (rows_of problem labels order) j d).signal → ⊥
+  no_two i j d before lt same =
+      let laid = all_laid problem labels order sorted i d (omega arith) in
+      let name = row_name problem labels order stands sorted legal named (get_or (rows_of problem labels order) i d) laid in
+      let here : is_named (name_at problem.signals (get_or laid.part.places laid.number 0)) (get_or (rows_of problem labels order) i d) ≡ true =
+      ap (bytes_eq (name_at problem.signals (get_or laid.part.places laid.number 0))) name ∙ nat_list_eq_equiv.refl (name_at problem.signals (get_or laid.part.places laid.number 0)) in
+      omega (
+        arith,
+        one_each problem labels order stands sorted legal named (get_or laid.part.places laid.number 0) (in_list problem labels order stands sorted legal named (get_or (rows_of problem labels order) i d) laid),
+        count_two (is_named (name_at problem.signals (get_or laid.part.places laid.number 0))) (rows_of problem labels order) i j d before lt here
+            (ap (bytes_eq (name_at problem.signals (get_or laid.part.places laid.number 0))) (sym same) ∙ here),
+      )
+
+  pub placed_laid : Placed problem (rows_of problem labels order)
+  placed_laid = record {
+    one_row = one_row;
+    frames_agree = λ i j d before lt same. same_frame _ _ (together i j d before lt same);
+    one_kind = λ i j d before lt.
+        let (p, in_order, is) = seen_at i d (omega arith) in
+        let (q, also_in, also) = seen_at j d lt in
+        record {
+          kind = λ same. same_kind _ _ (together i j d before lt same);
+          part = λ some same. same_part (get_or (rows_of problem labels order) i d) (get_or (rows_of problem labels order) j d) p q in_order also_in is also (get_or (rows_of problem labels order) i d).pdu refl some same;
+        };
+    header_kind = λ k d lt. let (p, in_order, is) = seen_at k d lt in header_kind p in_order (get_or (rows_of problem labels order) k d) is;
+    parts_in_a_row = λ k d lt. let (p, in_order, is) = seen_at k d lt in in_a_row p in_order (get_or (rows_of problem labels order) k d) is;
+    parts_begin_apart = λ i j d before lt same. begin_apart _ _ (together i j d before lt same);
+    size_and_ticks = λ k d lt. let (p, in_order, is) = seen_at k d lt in frame_fits p in_order (get_or (rows_of problem labels order) k d) is;
+    inside_the_part = λ k d lt. let (p, in_order, is) = seen_at k d lt in inside_part p in_order (get_or (rows_of problem labels order) k d) is;
+    no_overlap = λ i j d before lt same.
+        let both = together i j d before lt same in
+        apart_in_frame (get_or (rows_of problem labels order) i d) (get_or (rows_of problem labels order) j d) both
+        (λ one. no_two i j d before lt (both.first.named ∙ ap (name_at problem.signals) one ∙ sym both.second.named));
+  }

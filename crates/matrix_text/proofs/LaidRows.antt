@@ -1,128 +1,148 @@
 -- What each row of a matrix that was laid out is.
-use Rattle.std.proofs.Common.{◌≡◌, ℕ, ◌+◌, ◌<◌, ◌≤◌, List, length, get_or, sum, All, Some, None, sym, ap, subst, ◌∙◌, arith}
-use Rattle.std.specs.List.{enumerate_from}
-use Rattle.std.specs.Option.{unwrap_or}
-use Rattle.std.proofs.lemmas.Grind.{div_ceil_times}
-use Rattle.std.proofs.lemmas.List.{get_or-map, get_or_default, length-map}
+use Rattle.std.proofs.Common.{◌≡◌, ℕ, ◌+◌, ◌<◌, ◌≤◌, ◌⊎◌, true, false, cond, List, length, get_or, count_by, find, All, Some, inl, inr, refl, sym, ap, subst, ◌∙◌, arith}
+use Rattle.std.specs.List.{enumerate_from, position_or_len}
+use Rattle.std.specs.Str.{bytes_eq}
+use Rattle.std.specs.Cmp.Lexicographic.{nat_list_eq_equiv}
+use Rattle.std.proofs.lemmas.Bool.{cases_lt, cases_eq}
+use Rattle.std.proofs.lemmas.List.{get_or_default}
 use Rattle.std.proofs.lemmas.List.Elements.{All-map}
-use Rattle.std.proofs.lemmas.List.Sums.{sum_by_more_le}
+use Rattle.std.proofs.lemmas.List.Folds.{find_at}
+use Rattle.std.proofs.lemmas.List.Sums.{fails_before_first, passes_at_first}
+use Rattle.std.proofs.lemmas.Option.{slice_get-get_or}
 use Rattle.pack_model.specs.declared.signal.Signal.{Signal}
-use Rattle.pack_model.specs.declared.network.Network.{Network}
-use Rattle.pack_model.specs.Network.{NetworkStands}
-use Rattle.pack_model.specs.Signal.{SignalStands, IsFree}
+use Rattle.pack_model.specs.declared.item.Item.{Item}
 use Rattle.pack_model.specs.Problem.{Parts, IsProblem, IsSorted}
-use Rattle.pack_model.specs.Grouping.{IsLegal, IsOrder, bits_of_class}
-use Rattle.pack_model.specs.ClassTimes.{signals_of_class}
-use Rattle.pack_model.proofs.Laws.{tests}
-use Rattle.pack_model.proofs.GroupingLaws.{length-order, classes_of-le-length}
-use Rattle.pack_model.proofs.ItemLaws.{IsItemOf, items_of_signals}
-use Rattle.fd_length.specs.Size.{IsSize, fd_size_of}
-use Rattle.fd_length.proofs.Sizes.{fd_size_of-some, IsFdSize-from_value, IsSize-at_most}
-use Rattle.frame_ticks.specs.Worst.{worst_ticks_of}
-use Rattle.frame_ticks.proofs.WorstLaws.{worst_ticks_of-rises}
-use Rattle.ipdu_layout.specs.Layout.{bytes_of, start_of}
+use Rattle.pack_model.specs.Grouping.{IsOrder, class_of}
+use Rattle.pack_model.proofs.Laws.{element}
+use Rattle.pack_model.proofs.ItemFacts.{members_within}
+use Rattle.container_pdu.specs.Class.{IsLegal, header_of_items}
 use Rattle.matrix_text.specs.declared.matrix.MatrixRow.{MatrixRow}
-use Rattle.matrix_text.specs.Row.{RowInRange}
-use Rattle.matrix_text.specs.LaidOut.{widths_of, size_of_frame, row_in_frame, rows_of_class, rows_of, places_of_class}
+use Rattle.matrix_text.specs.Items.{is_named}
+use Rattle.matrix_text.specs.LaidOut.{FramePart, figures_of, parts_of_items, signals_at, row_in_part, rows_of_part, rows_of_class, rows_of}
+use Rattle.matrix_text.proofs.Counts.{count_none, count_only}
 use Rattle.matrix_text.proofs.SumLaws.{All-flat_map, All-enumerate}
-use Rattle.matrix_text.proofs.FrameSteps.{All-signals_at}
-use Rattle.matrix_text.proofs.ClassSteps.{class_inside, widths_of_class, signals_at-class, few_bits}
+use Rattle.matrix_text.proofs.RowsFound.{name_at, name_is, elsewhere}
+use Rattle.matrix_text.proofs.ClassItems.{from_list}
+use Rattle.matrix_text.proofs.PartItems.{none_item, IsPlaced, parts_placed}
+use Rattle.matrix_text.proofs.LaidSums.{length-signals_at, get_or-signals_at, sum_rows}
 
--- the row is that of a signal in the frame of the class that the order names at a place
+-- the items of the class that the order names at a place
+abbrev pub class_at : Parts → List ℕ → List ℕ → ℕ → List Item
+class_at problem labels order place = class_of (get_or order place 0) labels problem.items
+
+-- the row is that of the signal of a number in a part of the frame of the class that the order names at a place
 pub record IsLaid (problem : Parts) (labels order : List ℕ) (row : MatrixRow) : Type 0 where
   pub place : ℕ
+  pub part : FramePart
   pub number : ℕ
   pub signal : Signal
   pub in_order : place < length order
-  pub in_class : number < length (signals_of_class problem labels (get_or order place 0))
-  pub at : signal ≡ get_or (signals_of_class problem labels (get_or order place 0)) number signal
-  pub is : row ≡ row_in_frame problem.network (problem.network.first_id + place) (signals_of_class problem labels (get_or order place 0)) (number, signal)
+  pub in_part : number < length part.places
+  pub all_in : All (λ m. m < length problem.signals) part.places
+  pub placed : IsPlaced (header_of_items (class_at problem labels order place)) (class_at problem labels order place) part number
+  pub at : signal ≡ get_or problem.signals (get_or part.places number 0) signal
+  pub is : row ≡ row_in_part (figures_of problem.network (problem.network.first_id + place) (class_at problem labels order place)) part.at (signals_at problem.signals part.places) (number, signal)
 
--- each row is one
-pub all_laid : (problem : Parts) (labels order : List ℕ) → All (IsLaid problem labels order) (rows_of problem labels order)
-all_laid problem labels order =
-    All-flat_map (IsLaid problem labels order) (rows_of_class problem labels) (enumerate_from 0 order)
-    (All-enumerate (λ e. All (IsLaid problem labels order) (rows_of_class problem labels e)) order (λ place label in_order here.
-    All-map (IsLaid problem labels order) (row_in_frame problem.network (problem.network.first_id + place) (signals_of_class problem labels label)) (enumerate_from 0 (signals_of_class problem labels label))
-    (All-enumerate (λ e. IsLaid problem labels order (row_in_frame problem.network (problem.network.first_id + place) (signals_of_class problem labels label) e)) (signals_of_class problem labels label) (λ number signal in_class at.
-    laid place label number signal in_order (here ∙ get_or_default order place label 0 in_order) in_class at))))
-  where
-    laid : (place label number : ℕ) (signal : Signal) → place < length order → label ≡ get_or order place 0 → number < length (signals_of_class problem labels label) → signal ≡ get_or (signals_of_class problem labels label) number signal
-        → IsLaid problem labels order (row_in_frame problem.network (problem.network.first_id + place) (signals_of_class problem labels label) (number, signal))
-    laid place label number signal in_order here in_class at = record {
-      place = place;
-      number = number;
-      signal = signal;
-      in_order = in_order;
-      in_class = subst (λ k. number < length (signals_of_class problem labels k)) here in_class;
-      at = subst (λ k. signal ≡ get_or (signals_of_class problem labels k) number signal) here at;
-      is = ap (λ k. row_in_frame problem.network (problem.network.first_id + place) (signals_of_class problem labels k) (number, signal)) here;
-    }
+module _ (problem : Parts) (labels order : List ℕ) (sorted : IsSorted problem.signals problem.items) where
+  -- the members of a class are places of the list
+  class_within : (label : ℕ) (k : ℕ) → k < length (class_of label labels problem.items) → All (λ m. m < length problem.signals) (get_or (class_of label labels problem.items) k none_item).members
+  class_within label k lt =
+      let from = from_list label labels problem.items k lt in
+      subst (λ (y : Item). All (λ m. m < length problem.signals) y.members) (sym (from.same none_item)) (members_within problem.signals problem.items sorted from.number none_item from.within)
 
--- no frame lasts longer than the limit of a row
-few_ticks : (network : Network) (size : ℕ) → NetworkStands network → size ≤ 64 → worst_ticks_of network size ≤ 9999999999
-few_ticks network size stands small = omega (arith, worst_ticks_of-rises network size 64 small, stands.nominal_high, stands.data_high)
+  -- so are the places of a part
+  part_within : (label : ℕ) (part : FramePart) → ((number : ℕ) → number < length part.places → IsPlaced (header_of_items (class_of label labels problem.items)) (class_of label labels problem.items) part number) → All (λ m. m < length problem.signals) part.places
+  part_within label part placed k d lt =
+      let here = placed k lt in
+      let (j, within, is) = here.member in
+      let below = class_within label here.item here.within j (get_or part.places k 0) within in
+      omega (arith, below, is, get_or_default part.places k d 0 lt)
+
+  -- each row is one
+  pub all_laid : All (IsLaid problem labels order) (rows_of problem labels order)
+  all_laid =
+      All-flat_map (IsLaid problem labels order) (rows_of_class problem labels) (enumerate_from 0 order)
+      (All-enumerate (λ e. All (IsLaid problem labels order) (rows_of_class problem labels e)) order (λ place label in_order here.
+      subst (λ l. All (IsLaid problem labels order) (rows_of_class problem labels (place, l))) (sym (here ∙ get_or_default order place label 0 in_order)) (class_laid place in_order)))
+    where
+      part_laid : (place : ℕ) → place < length order → (part : FramePart)
+          → ((number : ℕ) → number < length part.places → IsPlaced (header_of_items (class_at problem labels order place)) (class_at problem labels order place) part number)
+          → All (IsLaid problem labels order) (rows_of_part (figures_of problem.network (problem.network.first_id + place) (class_at problem labels order place)) problem.signals part)
+      part_laid place in_order part placed =
+          let inside = part_within (get_or order place 0) part placed in
+          All-map (IsLaid problem labels order) (row_in_part (figures_of problem.network (problem.network.first_id + place) (class_at problem labels order place)) part.at (signals_at problem.signals part.places)) (enumerate_from 0 (signals_at problem.signals part.places))
+          (All-enumerate (λ e. IsLaid problem labels order (row_in_part (figures_of problem.network (problem.network.first_id + place) (class_at problem labels order place)) part.at (signals_at problem.signals part.places) e)) (signals_at problem.signals part.places) (λ number signal lt at.
+          let in_part : number < length part.places = omega (arith, lt, length-signals_at problem.signals part.places inside) in
+          record {
+            place = place;
+            part = part;
+            number = number;
+            signal = signal;
+            in_order = in_order;
+            in_part = in_part;
+            all_in = inside;
+            placed = placed number in_part;
+            at = at ∙ get_or-signals_at problem.signals part.places inside number signal in_part;
+            is = refl;
+          }))
+
+      class_laid : (place : ℕ) → place < length order → All (IsLaid problem labels order) (rows_of_class problem labels (place, get_or order place 0))
+      class_laid place in_order =
+          All-flat_map (IsLaid problem labels order) (rows_of_part (figures_of problem.network (problem.network.first_id + place) (class_at problem labels order place)) problem.signals) (parts_of_items (class_at problem labels order place))
+          (λ k d lt. part_laid place in_order (get_or (parts_of_items (class_at problem labels order place)) k d) (parts_placed (header_of_items (class_at problem labels order place)) (class_at problem labels order place) k d lt))
 
 module _ (problem : Parts) (labels order : List ℕ) (stands : IsProblem problem) (sorted : IsSorted problem.signals problem.items) (legal : IsLegal problem labels) (named : IsOrder labels order) where
-  of_signals : All (IsItemOf problem.signals) problem.items
-  of_signals = items_of_signals problem.signals problem.items sorted
+  -- each signal has one row
+  pub one_each : (m : ℕ) → m < length problem.signals → count_by (is_named (name_at problem.signals m)) (rows_of problem labels order) ≡ 1
+  one_each m lt =
+      sum_rows problem labels order sorted legal named (λ (s : Signal). cond (bytes_eq (name_at problem.signals m) s.name) 1 0) (λ (r : MatrixRow). cond (is_named (name_at problem.signals m) r) 1 0) (λ frame at start s. refl)
+      ∙ count_only (λ (s : Signal). bytes_eq (name_at problem.signals m) s.name) problem.signals m lt
+      (λ e. ap (bytes_eq (name_at problem.signals m)) (sym (name_is problem.signals m e lt)) ∙ nat_list_eq_equiv.refl (name_at problem.signals m))
+      (λ j e below differ. ap (bytes_eq (name_at problem.signals m)) (sym (name_is problem.signals j e below)) ∙ elsewhere problem stands (name_at problem.signals j) j m below lt (λ same. differ (sym same)) (nat_list_eq_equiv.refl (name_at problem.signals j)))
 
-  -- what holds of all signals holds of those of a class
-  pub All-class : (P : Signal → Type 0) (k : ℕ) → All P problem.signals → All P (signals_of_class problem labels k)
-  All-class P k all = subst (All P) (signals_at-class problem labels k) (All-signals_at P problem.signals (places_of_class problem.items labels k) all (class_inside problem.signals problem.items labels k of_signals))
+  -- the place of a row's signal in the list
+  abbrev pub place_in_list : (row : MatrixRow) → IsLaid problem labels order row → ℕ
+  place_in_list row laid = get_or laid.part.places laid.number 0
 
-  -- a class has at most 512 bits
-  pub class_small : (k : ℕ) → sum (widths_of (signals_of_class problem labels k)) ≤ 512
-  class_small k =
-      let bits = ap (λ ss. sum (widths_of ss)) (sym (signals_at-class problem labels k)) ∙ widths_of_class problem.signals problem.items labels k of_signals in
-      omega (arith, bits, few_bits (bits_of_class k labels problem.items) (legal.classes k).small)
+  pub in_list : (row : MatrixRow) (laid : IsLaid problem labels order row) → place_in_list row laid < length problem.signals
+  in_list row laid = laid.all_in laid.number 0 laid.in_part
 
-  -- its frame has a size
-  pub class_sized : (k : ℕ) → fd_size_of (bytes_of (sum (widths_of (signals_of_class problem labels k)))) ≡ Some (size_of_frame (signals_of_class problem labels k))
-  class_sized k =
-      let found = fd_size_of-some (bytes_of (sum (widths_of (signals_of_class problem labels k)))) (omega (arith, class_small k, div_ceil_times (sum (widths_of (signals_of_class problem labels k))) 8 (omega arith))) in
-      found.1 ∙ ap (λ n. Some n) (sym (ap (λ o. unwrap_or o 0) found.1))
+  -- a row has the name of its signal
+  pub row_name : (row : MatrixRow) (laid : IsLaid problem labels order row) → row.signal ≡ name_at problem.signals (place_in_list row laid)
+  row_name row laid = ap (λ (r : MatrixRow). r.signal) laid.is ∙ ap (λ (s : Signal). s.name) laid.at ∙ sym (name_is problem.signals (place_in_list row laid) laid.signal (in_list row laid))
 
-  pub class_listed : (k : ℕ) → IsSize (size_of_frame (signals_of_class problem labels k))
-  class_listed k = (IsFdSize-from_value (bytes_of (sum (widths_of (signals_of_class problem labels k)))) (size_of_frame (signals_of_class problem labels k)) (class_sized k)).listed
+  -- a row that is named as the signal at a place is of that signal
+  same_place : (row : MatrixRow) (laid : IsLaid problem labels order row) (m : ℕ) → m < length problem.signals → is_named (name_at problem.signals m) row ≡ true → place_in_list row laid ≡ m
+  same_place row laid m lt is = by (cases_eq (place_in_list row laid) m)
+    where
+      by : (place_in_list row laid ≡ m) ⊎ (place_in_list row laid ≡ m → ⊥) → place_in_list row laid ≡ m
+      by (inl same) = same
+      by (inr differ) =
+          let wrong : is_named (name_at problem.signals m) row ≡ false =
+          ap (bytes_eq (name_at problem.signals m)) (row_name row laid) ∙ elsewhere problem stands (name_at problem.signals (place_in_list row laid)) (place_in_list row laid) m (in_list row laid) lt (λ same. differ (sym same)) (nat_list_eq_equiv.refl (name_at problem.signals (place_in_list row laid))) in
+          absurd (let no : true ≡ false = sym is ∙ wrong in cc)
 
-  -- a signal ends within the bits of its class
-  pub row_ends : (row : MatrixRow) (laid : IsLaid problem labels order row) → start_of (widths_of (signals_of_class problem labels (get_or order laid.place 0))) laid.number + laid.signal.bits ≤ sum (widths_of (signals_of_class problem labels (get_or order laid.place 0)))
-  row_ends row laid =
-      let frame = signals_of_class problem labels (get_or order laid.place 0) in
-      let width : get_or (widths_of (signals_of_class problem labels (get_or order laid.place 0))) laid.number 0 ≡ laid.signal.bits =
-      get_or-map (λ (s : Signal). s.bits) (signals_of_class problem labels (get_or order laid.place 0)) laid.number laid.signal 0 laid.in_class ∙ ap (λ (s : Signal). s.bits) (sym laid.at) in
-      let within : laid.number < length (widths_of (signals_of_class problem labels (get_or order laid.place 0))) = simp length-map laid.in_class in
-      omega (arith, width, sum_by_more_le (λ x. x) (widths_of (signals_of_class problem labels (get_or order laid.place 0))) laid.number 0 within)
+  -- the row that is found by a name
+  pub record IsFound (m : ℕ) : Type 0 where
+    pub row : MatrixRow
+    pub found : find (is_named (name_at problem.signals m)) (rows_of problem labels order) ≡ Some row
+    pub laid : IsLaid problem labels order row
+    pub of : place_in_list row laid ≡ m
 
-  -- a signal of a class is in its range and free
-  pub laid_stands : (row : MatrixRow) (laid : IsLaid problem labels order row) → SignalStands laid.signal
-  laid_stands row laid = subst SignalStands (sym laid.at) (All-class SignalStands (get_or order laid.place 0) stands.signals laid.number laid.signal laid.in_class)
-
-  pub laid_free : (row : MatrixRow) (laid : IsLaid problem labels order row) → IsFree laid.signal
-  laid_free row laid = subst IsFree (sym laid.at) (All-class IsFree (get_or order laid.place 0) stands.free laid.number laid.signal laid.in_class)
-
-  -- there are at most 128 frames
-  pub few_frames : length order ≤ 128
-  few_frames = omega (arith, length-order labels order named, classes_of-le-length problem.items labels legal.grouping, (tests problem stands).few_items)
-
-  -- the figures of the rows are in their ranges
-  row_in_range : (row : MatrixRow) → IsLaid problem labels order row → RowInRange row
-  row_in_range row laid =
-      let signal = laid_stands row laid in
-      let ends = row_ends row laid in
-      let small = class_small (get_or order laid.place 0) in
-      let listed = class_listed (get_or order laid.place 0) in
-      subst RowInRange (sym laid.is) (record {
-        id = omega (arith, laid.in_order, few_frames, stands.network.first_id_high);
-        size = listed;
-        ticks = few_ticks problem.network (size_of_frame (signals_of_class problem labels (get_or order laid.place 0))) stands.network (IsSize-at_most _ listed);
-        pdu = λ id some. absurd (let wrong : Some id ≡ None = sym some ∙ laid_free row laid in cc);
-        at = omega arith;
-        start = omega (arith, signal.bits_low);
-        bits_low = signal.bits_low;
-        bits_high = signal.bits_high;
-      })
-
-  pub laid_in_range : All RowInRange (rows_of problem labels order)
-  laid_in_range = λ k d lt. row_in_range (get_or (rows_of problem labels order) k d) (all_laid problem labels order k d lt)
+  pub found_row : (m : ℕ) → m < length problem.signals → IsFound m
+  found_row m lt = by (cases_lt (position_or_len (is_named (name_at problem.signals m)) (rows_of problem labels order)) (length (rows_of problem labels order)))
+    where
+      by : (position_or_len (is_named (name_at problem.signals m)) (rows_of problem labels order) < length (rows_of problem labels order)) ⊎ (length (rows_of problem labels order) ≤ position_or_len (is_named (name_at problem.signals m)) (rows_of problem labels order)) → IsFound m
+      by (inr none) =
+          absurd (omega (arith, one_each m lt, count_none (is_named (name_at problem.signals m)) (rows_of problem labels order) (λ k d below. fails_before_first (is_named (name_at problem.signals m)) (rows_of problem labels order) k d (omega arith))))
+      by (inl some) =
+          let j = position_or_len (is_named (name_at problem.signals m)) (rows_of problem labels order) in
+          let (row, at) = element (rows_of problem labels order) (position_or_len (is_named (name_at problem.signals m)) (rows_of problem labels order)) some in
+          let laid : IsLaid problem labels order row = subst (IsLaid problem labels order) (sym at) (all_laid problem labels order sorted (position_or_len (is_named (name_at problem.signals m)) (rows_of problem labels order)) row some) in
+          let is : is_named (name_at problem.signals m) row ≡ true = ap (is_named (name_at problem.signals m)) at ∙ passes_at_first (is_named (name_at problem.signals m)) (rows_of problem labels order) row some in
+          record {
+            row = row;
+            found = find_at (is_named (name_at problem.signals m)) (rows_of problem labels order) ∙ slice_get-get_or (rows_of problem labels order) (position_or_len (is_named (name_at problem.signals m)) (rows_of problem labels order)) row some ∙ ap (λ r. Some r) (sym at);
+            laid = laid;
+            of = same_place row laid m lt is;
+          }

@@ -7,7 +7,7 @@ use Rattle.std.proofs.lemmas.List.{take_more, length-take-le, length-append, get
 use Rattle.std.proofs.lemmas.List.Folds.{list_any-append}
 use Rattle.pack_model.specs.Problem.{distinct}
 use Rattle.pack_model.proofs.Distinct.{distinct-push, distinct-front, length-distinct}
-use Rattle.pack_model.proofs.Steps.{first_place}
+use Rattle.matrix_text.proofs.RowsFound.{first_place}
 use Rattle.matrix_text.specs.Frames.{label_in}
 use Rattle.matrix_text.specs.Tables.{no_label, label_or_none, HasLabels}
 

@@ -1,18 +1,19 @@
 -- The grouping of items one each is legal, and so is its order by number.
-use Rattle.std.proofs.Common.{◌≡◌, ℕ, ◌+◌, ◌<◌, ◌≤◌, ◌⊎◌, List, [], ◌∷◌, length, take, get_or, cond, All, suc, zero, inl, inr, refl, sym, ap, subst, ◌∙◌, arith, eq-eqb, sum_by}
-use Rattle.std.specs.List.{range_with_len}
+use Rattle.std.proofs.Common.{◌≡◌, ℕ, ◌+◌, ◌<◌, ◌≤◌, ◌⊎◌, ◌||◌, false, if◌then◌else◌, is_some, Option, None, Some, List, [], ◌∷◌, length, take, cond, All, suc, zero, inl, inr, refl, sym, ap, subst, ◌∙◌, arith, eq-eqb, sum_by}
+use Rattle.std.specs.List.{cons_option, range_with_len}
 use Rattle.std.specs.Int.{div_ceil}
 use Rattle.std.proofs.lemmas.Bool.{cases_eq, ne_eqb}
 use Rattle.std.proofs.lemmas.Grind.{div_ceil_times}
 use Rattle.std.proofs.lemmas.List.Elements.{All-head, All-tail}
 use Rattle.std.proofs.lemmas.List.FromFn.{length-range_with_len, get_or-range_with_len}
 use Rattle.std.proofs.lemmas.List.Sums.{sum_by-cons}
-use Rattle.pack_model.specs.declared.signal.Signal.{Signal}
 use Rattle.pack_model.specs.declared.item.Item.{Item}
-use Rattle.pack_model.specs.Problem.{Parts, IsProblem, IsSorted}
-use Rattle.pack_model.specs.Grouping.{classes_of, class_of, ClassStands, IsLegal, IsOrder}
+use Rattle.pack_model.specs.Problem.{Parts, IsProblem}
+use Rattle.pack_model.specs.Grouping.{classes_of, class_of, IsOrder}
 use Rattle.pack_model.proofs.GroupingLaws.{class_of-cons}
-use Rattle.pack_model.proofs.ItemLaws.{IsItemOf, items_of_signals}
+use Rattle.pack_model.proofs.ItemFacts.{small_items}
+use Rattle.container_pdu.specs.Bytes.{bytes_of_parts}
+use Rattle.container_pdu.specs.Class.{ClassStands, IsLegal, bytes_of_item, bytes_of_items}
 use Rattle.matrix_text.proofs.InOrder.{count_here}
 
 -- numbers in a row have as many classes as the last of them says
@@ -68,36 +69,38 @@ module _ {X : Type 0} where
                 ∙ one,
           )
 
+-- the bytes of one item
+one_item_bytes : (item : Item) → item.bits ≤ 512 → bytes_of_items (item ∷ []) ≤ 64
+one_item_bytes item few = by item.pdu
+  where
+    by : (o : Option ℕ) → (if is_some o || false then bytes_of_parts (cons_option o []) (bytes_of_item item ∷ []) else div_ceil (sum_by (λ (y : Item). y.bits) (item ∷ [])) 8) ≤ 64
+    by None = omega (arith, sum_by-cons (λ (y : Item). y.bits) item [], div_ceil_times (sum_by (λ (y : Item). y.bits) (item ∷ [])) 8 (omega arith))
+    by (Some id) = omega (arith, sum_by-cons (λ x. x) (bytes_of_item item) [], div_ceil_times item.bits 8 (omega arith))
+
 -- at most one item of at most 512 bits is a class that can become a frame
-small_class : (items : List Item) → (items ≡ []) ⊎ ((item : Item) × (item.bits ≤ 512) × (items ≡ item ∷ [])) → ClassStands items (div_ceil (sum_by (λ item. item.bits) items) 8)
-small_class items (inl none) = subst (λ (ys : List Item). ClassStands ys (div_ceil (sum_by (λ item. item.bits) ys) 8)) (sym none) (record {
+small_class : (items : List Item) → (items ≡ []) ⊎ ((item : Item) × (item.bits ≤ 512) × (items ≡ item ∷ [])) → ClassStands items
+small_class items (inl none) = subst ClassStands (sym none) (record {
   one_sender = λ i j d before lt. absurd (omega arith);
   one_kind = λ i j d before lt. absurd (omega arith);
   small = omega arith;
 })
-small_class items (inr (item, few, one)) = subst (λ (ys : List Item). ClassStands ys (div_ceil (sum_by (λ item. item.bits) ys) 8)) (sym one) (record {
+small_class items (inr (item, few, one)) = subst ClassStands (sym one) (record {
   one_sender = λ i j d before lt. absurd (omega arith);
   one_kind = λ i j d before lt. absurd (omega arith);
-  small = omega (arith, sum_by-cons (λ (y : Item). y.bits) item [], div_ceil_times (sum_by (λ (y : Item). y.bits) (item ∷ [])) 8 (omega arith));
+  small = one_item_bytes item few;
 })
 
 -- the grouping is legal
-pub one_each_legal : (problem : Parts) → IsProblem problem → IsSorted problem.signals problem.items → IsLegal problem (range_with_len 0 (length problem.items))
-one_each_legal problem stands sorted = record {
+pub one_each_legal : (problem : Parts) → IsProblem problem → IsLegal problem (range_with_len 0 (length problem.items))
+one_each_legal problem stands = record {
   grouping = record {
     each = length-range_with_len 0 (length problem.items);
     by_first_use = λ k lt.
         let within : k < length problem.items = simp length-range_with_len at lt in
         omega (arith, get_or-range_with_len 0 (length problem.items) k 0 within, ap classes_of (take-range 0 (length problem.items) k (omega arith)), classes_of-range k);
   };
-  classes = λ k. small_class (class_of k (range_with_len 0 (length problem.items)) problem.items) (alone (λ item. item.bits ≤ 512) k 0 problem.items few_bits);
+  classes = λ k. small_class (class_of k (range_with_len 0 (length problem.items)) problem.items) (alone (λ item. item.bits ≤ 512) k 0 problem.items (small_items problem stands));
 }
-  where
-    few_bits : All (λ (item : Item). item.bits ≤ 512) problem.items
-    few_bits k d lt = of_signal (get_or problem.items k d) (items_of_signals problem.signals problem.items sorted k d lt)
-      where
-        of_signal : (item : Item) (of : IsItemOf problem.signals item) → item.bits ≤ 512
-        of_signal item of = omega (arith, ap (λ (y : Item). y.bits) of.is, ap (λ (s : Signal). s.bits) of.at, (stands.signals of.place of.signal of.within).bits_high)
 
 -- and the order names each class once
 pub one_each_order : (n : ℕ) → IsOrder (range_with_len 0 n) (range_with_len 0 n)

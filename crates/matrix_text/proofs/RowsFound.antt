@@ -1,5 +1,5 @@
 -- The row of each signal, as rows come one by one.
-use Rattle.std.proofs.Common.{◌≡◌, ◌≢◌, ℕ, ◌+◌, ◌<◌, ◌≤◌, ◌⊎◌, Bool, true, false, cond, List, [], length, get_or, set, count_by, inl, inr, sym, ap, subst, refl, ◌∙◌, arith, true≢false, Any, None, Some, position}
+use Rattle.std.proofs.Common.{◌≡◌, ◌≢◌, ℕ, ◌+◌, ◌<◌, ◌≤◌, ◌⊎◌, Bool, true, false, cond, List, [], length, get_or, set, count_by, inl, inr, sym, ap, subst, refl, ◌∙◌, arith, ◌||◌, ◌∷◌, true≢false, Any, None, Some, position}
 use Rattle.std.specs.List.{list_any, position_or_len}
 use Rattle.std.specs.Str.{bytes_eq}
 use Rattle.std.specs.Cmp.Lexicographic.{nat_list_eq_equiv}
@@ -13,9 +13,9 @@ use Rattle.pack_model.specs.Problem.{Parts, IsProblem, names_of}
 use Rattle.std.proofs.lemmas.Bool.{lt-ltb}
 use Rattle.std.proofs.lemmas.List.Folds.{list_any_at}
 use Rattle.pack_model.proofs.Laws.{names_differ, tests, element}
-use Rattle.pack_model.proofs.Steps.{first_place}
 use Rattle.matrix_text.specs.declared.matrix.MatrixRow.{MatrixRow}
-use Rattle.matrix_text.specs.Placed.{OneRow, RowOf, is_named}
+use Rattle.matrix_text.specs.Items.{is_named}
+use Rattle.matrix_text.specs.Placed.{OneRow, RowOf}
 use Rattle.matrix_text.specs.Tables.{no_row, HasRows}
 use Rattle.matrix_text.proofs.FirstRows.{at_number, below_row}
 use Rattle.matrix_text.proofs.Counts.{count_two, count_none, count_only}
@@ -33,6 +33,19 @@ pub record OnlyRow (rows : List MatrixRow) (number : ℕ) (name : List ℕ) (row
 -- what the table says of a place
 abbrev pub HasRow : List MatrixRow → ℕ → List ℕ → ℕ → Type 0
 HasRow rows number name row = ((row ≡ no_row) × ((k : ℕ) (d : MatrixRow) → k < number → is_named name (get_or rows k d) ≡ false)) ⊎ OnlyRow rows number name row
+
+-- what passes the test somewhere has a first place
+pub first_place : {X : Type 0} (p : X → Bool) (xs : List X) → list_any p xs ≡ true → position_or_len p xs < length xs
+first_place p [] h = absurd (true≢false (sym h))
+first_place p (x ∷ xs) h = by (p x) refl (first_place p xs)
+  where
+    by : (b : Bool) → p x ≡ b → (list_any p xs ≡ true → position_or_len p xs < length xs) → position_or_len p (x ∷ xs) < length (x ∷ xs)
+    by true e rest = rw e (omega arith)
+    by false e rest = let later : position_or_len p xs < length xs = rest (sym (ap (λ b. b || list_any p xs) e) ∙ h) in rw e (omega arith)
+
+-- what passes a test somewhere passes it at the first place
+pub at_first : {X : Type 0} (p : X → Bool) (xs : List X) (d : X) → position_or_len p xs < length xs → p (get_or xs (position_or_len p xs) d) ≡ true
+at_first p xs d lt = (position-Some p xs (position_or_len p xs) d (ap (λ b. cond b (Some (position_or_len p xs)) None) (lt-ltb _ _ lt))).1
 
 not_true : (b : Bool) → (b ≡ true → ⊥) → b ≡ false
 not_true true h = absurd (h refl)

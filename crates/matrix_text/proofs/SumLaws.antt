@@ -1,10 +1,9 @@
 -- Sums, and what holds of all elements, over lists that are put together.
-use Rattle.std.proofs.Common.{◌≡◌, ℕ, ◌+◌, ◌<◌, Bool, true, false, cond, List, [], ◌∷◌, ◌++◌, length, map, filter, sum_by, get_or, All, AllPairs, suc, refl, sym, ap, subst, ◌∙◌, arith, zero-add}
+use Rattle.std.proofs.Common.{◌≡◌, ℕ, ◌+◌, ◌<◌, List, [], ◌∷◌, length, map, sum_by, get_or, All, refl, sym, ap, subst, ◌∙◌, zero-add}
 use Rattle.std.specs.List.{flat_map, enumerate_from}
 use Rattle.std.proofs.lemmas.List.Elements.{All-nil, All-head, All-tail, All-append}
 use Rattle.std.proofs.lemmas.List.{get_or_default}
 use Rattle.std.proofs.lemmas.List.FromFn.{length-enumerate_from, get_or-enumerate_from}
-use Rattle.std.proofs.lemmas.List.Kept.{AllPairs-cons}
 use Rattle.std.proofs.lemmas.List.Sums.{sum_by-cons, sum_by-append}
 
 module _ {X Y : Type 0} where
@@ -26,26 +25,10 @@ module _ {X : Type 0} where
   sum_by-enumerate f n [] = refl
   sum_by-enumerate f n (x ∷ xs) = sum_by-cons (λ (e : ℕ × X). f e.1) (n, x) (enumerate_from (n + 1) xs) ∙ ap (λ m. f x + m) (sum_by-enumerate f (n + 1) xs) ∙ sym (sum_by-cons f x xs)
 
-  pub sum_by-where : (f : X → ℕ) (p : X → Bool) (xs : List X) → sum_by f (filter p xs) ≡ sum_by (λ x. cond (p x) (f x) 0) xs
-  sum_by-where f p [] = refl
-  sum_by-where f p (x ∷ xs) = by (p x) ∙ ap (λ n. cond (p x) (f x) 0 + n) (sum_by-where f p xs) ∙ sym (sum_by-cons (λ x. cond (p x) (f x) 0) x xs)
-    where
-      by : (b : Bool) → sum_by f (cond b (x ∷ filter p xs) (filter p xs)) ≡ cond b (f x) 0 + sum_by f (filter p xs)
-      by true = sum_by-cons f x (filter p xs)
-      by false = omega arith
-
   pub sum_by-same : (f g : X → ℕ) (xs : List X) → All (λ x. f x ≡ g x) xs → sum_by f xs ≡ sum_by g xs
   sum_by-same f g [] all = refl
   sum_by-same f g (x ∷ xs) all =
       sum_by-cons f x xs ∙ ap (λ n. n + sum_by f xs) (All-head (λ x. f x ≡ g x) x xs all) ∙ ap (λ n. g x + n) (sum_by-same f g xs (All-tail (λ x. f x ≡ g x) x xs all)) ∙ sym (sum_by-cons g x xs)
-
-  -- a relation over two lists, one after the other
-  pub AllPairs-append : (R : X → X → Type 0) (xs ys : List X) → AllPairs R xs → AllPairs R ys → All (λ x. All (R x) ys) xs → AllPairs R (xs ++ ys)
-  AllPairs-append R [] ys first second across = second
-  AllPairs-append R (x ∷ xs) ys first second across =
-      AllPairs-cons R x (xs ++ ys)
-      (All-append (R x) xs ys (λ k d lt. first 0 (suc k) d (omega arith) (omega arith)) (All-head (λ x. All (R x) ys) x xs across))
-      (AllPairs-append R xs ys (λ i j d before lt. first (suc i) (suc j) d (omega arith) (omega arith)) second (All-tail (λ x. All (R x) ys) x xs across))
 
   -- elements by number
   pub All-enumerate : (P : ℕ × X → Type 0) (xs : List X) → ((k : ℕ) (x : X) → k < length xs → x ≡ get_or xs k x → P (k, x)) → All P (enumerate_from 0 xs)

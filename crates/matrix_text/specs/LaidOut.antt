@@ -1,5 +1,5 @@
 -- The communication matrix of a grouping: each class becomes one frame, by the order of the classes. In a container the I-PDUs follow each other under their headers, as AUTOSAR IpduM has them; signals stand one after another as AUTOSAR COM counts bits.
-use Rattle.std.specs.Prelude.{ℕ, ◌+◌, ◌*◌, List, [], ◌∷◌, length, map, sum, unwrap_or, slice_get}
+use Rattle.std.specs.Prelude.{ℕ, ◌+◌, ◌*◌, List, [], ◌∷◌, length, map, unwrap_or, slice_get}
 use Rattle.std.specs.List.{enumerate_from, filter_map, flat_map, range_with_len}
 use Rattle.pack_model.specs.declared.network.Network.{Network}
 use Rattle.pack_model.specs.declared.signal.Signal.{Signal}

@@ -1,3 +1,4 @@
+pub mod ClassItems
 pub mod Frames
 pub mod Items
 pub mod LaidOut

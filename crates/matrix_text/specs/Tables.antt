@@ -1,16 +1,21 @@
 -- Tables by identifier and by signal, which the checks of a matrix fill in one pass over its rows.
-use Rattle.std.specs.Prelude.{ℕ, ◌≡◌, ◌+◌, ◌*◌, ◌<◌, ◌≤◌, nat_eq, List, [], filter, not, Some, slice_index, slice_index_or, length, if◌then◌else◌}
-use Rattle.std.specs.List.{list_any, position_or_len}
+use Rattle.std.specs.Prelude.{ℕ, Bool, true, ◌≡◌, ◌≢◌, ◌==◌, ◌+◌, ◌*◌, ◌^◌, ◌<◌, ◌≤◌, nat_eq, nat_lt, List, [], filter, not, Option, Some, None, is_some, IsSome, slice_index, slice_index_or, length, sum_by, if◌then◌else◌}
+use Rattle.std.specs.List.{list_all, list_any, position_or_len}
+use Rattle.pack_model.specs.declared.item.Item.{Item}
+use Rattle.pack_model.specs.declared.signal.Signal.{Signal}
+use Rattle.pack_model.specs.Problem.{Parts, names_of}
 use Rattle.pack_model.specs.declared.network.Network.{Network}
 use Rattle.fd_length.specs.Size.{fd_size_of}
 use Rattle.frame_ticks.specs.Worst.{worst_ticks_of}
-use Rattle.ipdu_layout.specs.Layout.{bytes_of}
-use Rattle.container_pdu.specs.declared.header.Header.TheVariants.{NoHeader}
-use Rattle.pack_model.specs.declared.signal.Signal.{Signal}
-use Rattle.pack_model.specs.Problem.{names_of}
 use Rattle.ipdu_layout.specs.declared.place.Place.{Place}
+use Rattle.container_pdu.specs.declared.header.Header.{Header}
+use Rattle.container_pdu.specs.declared.header.Header.TheVariants.{NoHeader}
+use Rattle.container_pdu.specs.Bytes.{header_bytes}
+use Rattle.container_pdu.specs.Class.{header_of_items, bytes_of_item, ids_of}
 use Rattle.matrix_text.specs.declared.matrix.MatrixRow.{MatrixRow}
-use Rattle.matrix_text.specs.Items.{is_named}
+use Rattle.matrix_text.specs.declared.tally.Tally.{Tally}
+use Rattle.matrix_text.specs.Items.{is_named, frame_of_item, at_of_item, items_in_frame}
+use Rattle.matrix_text.specs.Placed.{BeginApart, InARow, FrameFits, InsidePart, bytes_of_pdu}
 use Rattle.matrix_text.specs.Frames.{label_in}
 
 -- a row number that no matrix has, and a label that no frame has
@@ -43,17 +48,80 @@ pub record LabelsApart (label_of : List ℕ) (rows : List MatrixRow) : Type 0 wh
   pub low : (k : ℕ) (d : MatrixRow) → k < length rows → slice_index label_of (slice_index_or rows k d).id < 128
   pub apart : (i j : ℕ) (d : MatrixRow) → i < length rows → j < length rows → slice_index label_of (slice_index_or rows i d).id ≡ slice_index label_of (slice_index_or rows j d).id → (slice_index_or rows i d).id ≡ (slice_index_or rows j d).id
 
--- the row is of a frame without headers
-pub record IsPlain (row : MatrixRow) : Type 0 where
-  pub header : row.header ≡ NoHeader
-  pub at : row.at ≡ 0
+-- the item's first signal has a row in the table
+pub record FirstFound (rows : List MatrixRow) (row_of : List ℕ) (item : Item) : Type 0 where
+  pub some : 0 < length item.members
+  pub low : slice_index item.members 0 < 2048
+  pub within : slice_index row_of (slice_index item.members 0) < length rows
 
--- the row's frame has the size and the ticks of so many bits, and the row's signal lies in it
-pub record FitsBits (network : Network) (row : MatrixRow) (bits : ℕ) : Type 0 where
-  pub size : fd_size_of (bytes_of bits) ≡ Some row.size
-  pub ticks : row.ticks ≡ worst_ticks_of network row.size
+-- rows of one frame are all of free signals or all of I-PDUs
+abbrev pub SameKind : MatrixRow → MatrixRow → Type 0
+SameKind row other = row.id ≡ other.id → is_some row.pdu ≡ is_some other.pdu
+
+-- rows of one I-PDU stand in one part of one frame
+abbrev pub SamePart : MatrixRow → MatrixRow → Type 0
+SamePart row other = IsSome row.pdu → row.pdu ≡ other.pdu → (row.id ≡ other.id) × (row.at ≡ other.at)
+
+-- what two rows say of their parts can be so in one matrix
+pub record StandTogether (row other : MatrixRow) : Type 0 where
+  pub kind : SameKind row other
+  pub part : SamePart row other
+  pub apart : BeginApart row other
+
+-- the item is free or has an id of 24 bits at most
+abbrev pub is_short : Option ℕ → Bool
+is_short None = true
+is_short (Some id) = nat_lt id (2 ^ 24)
+
+-- what items are together: how many I-PDUs, whether each has an id of 24 bits at most, their bytes and their bits
+pub record IsTally (items : List Item) (tally : Tally) : Type 0 where
+  pub pdus : tally.pdus ≡ length (ids_of items)
+  pub short : tally.short ≡ list_all (λ item. is_short item.pdu) items
+  pub bytes : tally.bytes ≡ sum_by bytes_of_item items
+  pub bits : tally.bits ≡ sum_by (λ item. item.bits) items
+
+-- the tally is no more than that of so many items
+pub record TallyWithin (items : ℕ) (tally : Tally) : Type 0 where
+  pub pdus : tally.pdus ≤ items
+  pub bytes : tally.bytes ≤ 64 * items
+  pub bits : tally.bits ≤ 512 * items
+
+-- those of the items that are in the frame and whose part begins before a byte
+abbrev pub parts_before : Parts → List MatrixRow → ℕ → ℕ → List Item → List Item
+parts_before problem rows id at items = filter (λ item. nat_lt (at_of_item problem rows item) at) (filter (λ item. frame_of_item problem rows item == id) items)
+
+-- the bytes of parts, each with this header
+abbrev pub bytes_under : Header → List Item → ℕ
+bytes_under header items = sum_by (λ item. header_bytes header + bytes_of_item item) items
+
+-- the bytes of the part of a signal: for a free signal those of its frame, else those of its I-PDU
+abbrev pub bytes_of_part : List Signal → ℕ → Option ℕ → ℕ
+bytes_of_part signals frame_bytes None = frame_bytes
+bytes_of_part signals frame_bytes (Some pdu) = bytes_of_pdu signals pdu
+
+-- the signal lies in a part of so many bytes
+pub record InPart (row : MatrixRow) (bytes : ℕ) : Type 0 where
   pub from : 8 * row.at ≤ row.start
-  pub below : row.start + row.bits ≤ 8 * (row.at + bytes_of bits)
+  pub below : row.start + row.bits ≤ 8 * (row.at + bytes)
+
+-- the part begins at 0 where there are no headers, and else after its header, which follows so many bytes
+pub record BeginsAfter (row : MatrixRow) (before : ℕ) : Type 0 where
+  pub alone : row.header ≡ NoHeader → row.at ≡ 0
+  pub among : row.header ≢ NoHeader → row.at ≡ header_bytes row.header + before
+
+-- the row's frame has the size and the ticks of so many bytes, and its signal lies in its part, which follows its header and so many bytes
+pub record RowMeets (network : Network) (row : MatrixRow) (bytes part before : ℕ) : Type 0 where
+  pub size : fd_size_of bytes ≡ Some row.size
+  pub ticks : row.ticks ≡ worst_ticks_of network row.size
+  pub inside : InPart row part
+  pub begins : BeginsAfter row before
+
+-- the row has the header, the place, the size and the ticks that the items of its frame give, and its signal lies in its part
+pub record RowFits (problem : Parts) (rows : List MatrixRow) (row : MatrixRow) : Type 0 where
+  pub header : row.header ≡ header_of_items (items_in_frame problem rows row.id)
+  pub in_a_row : InARow problem rows row
+  pub frame : FrameFits problem rows row
+  pub inside : InsidePart problem rows row
 
 -- the labels of a table that are in use, by ascending identifier
 abbrev pub in_use : List ℕ → List ℕ

@@ -1,19 +1,11 @@
-//! What the rows of one frame say of it.
-ghost use Rattle.std.specs.Prelude.{◌≡◌, ◌≤◌, ◌<◌, ◌+◌, ◌*◌, ◌↔◌, ℕ, All, AllPairs, IsTrue, min, slice_index, Some};
-ghost use Rattle.pack_model.specs.Network.{NetworkStands};
-ghost use Rattle.fd_length.specs.Size.{fd_size_of};
-ghost use Rattle.frame_ticks.specs.Worst.{worst_ticks_of};
-ghost use Rattle.ipdu_layout.specs.Layout.{bytes_of};
-ghost use Rattle.container_pdu.specs.declared.header.Header.TheVariants.{NoHeader};
-ghost use Rattle.matrix_text.specs.Placed.{SameFrame, FrameFits, InsidePart, bits_in_frame};
+//! What the rows of a matrix say of each other.
+ghost use Rattle.std.specs.Prelude.{◌≡◌, ◌↔◌, All, AllPairs, IsTrue};
+ghost use Rattle.matrix_text.specs.Placed.{SameFrame, BeginApart};
 ghost use Rattle.matrix_text.specs.Row.{RowInRange};
-ghost use Rattle.matrix_text.specs.Tables.{FitsBits, IsPlain};
+ghost use Rattle.matrix_text.specs.Tables.{SameKind, SamePart, StandTogether};
 
 use crate::matrix::MatrixRow;
 use container_pdu::Header;
-use fd_length::fd_size;
-use frame_ticks::worst_ticks;
-use pack_model::Network;
 
 /// No row, in a table from identifiers to rows.
 const NO_ROW: usize = usize::MAX;
@@ -45,77 +37,58 @@ fn are_of_one_frame(row: &MatrixRow, other: &MatrixRow) -> bool
         && row.header == other.header
 }
 
-/// Whether all rows are of frames without headers.
-pub fn are_plain(rows: &[MatrixRow]) -> bool
-    ensures { IsTrue result ↔ All IsPlain rows.now }
+/// Whether the rows of each frame are of one kind, those of each I-PDU stand in one part, and
+/// different parts begin at different bytes.
+pub fn parts_agree(rows: &[MatrixRow]) -> bool
+    ensures { IsTrue result ↔ AllPairs StandTogether rows.now }
 {
-    for row in rows {
-        if row.header != Header::NoHeader || row.at != 0 {
+    for (number, row) in rows.iter().enumerate() {
+        if !agrees_with_each(row, &rows[..number]) {
             return false;
         }
     }
     true
 }
 
-/// One more than the bits that a frame takes.
-const TOO_MANY_BITS: u32 = 513;
-
-/// Whether each frame has the size and the ticks of its signals' bits, and its signals lie in it.
-pub fn fill_frames(network: &Network, rows: &[MatrixRow]) -> bool
-    requires network { NetworkStands network.now }
-    requires in_range { All RowInRange rows.now }
-    ensures { IsTrue result ↔ (All (FrameFits network.now rows.now) rows.now × All (InsidePart rows.now) rows.now) }
+/// Whether each of the earlier rows can stand with the row in one matrix.
+fn agrees_with_each(row: &MatrixRow, earlier: &[MatrixRow]) -> bool
+    ensures { IsTrue result ↔ All (λ other. StandTogether other row.now) earlier.now }
 {
-    let bits_of = bits_by_frame(rows);
-    for row in rows {
-        if !fits(network, row, bits_of[row.id as usize]) {
+    for other in earlier {
+        if !stand_together(other, row) {
             return false;
         }
     }
     true
 }
 
-/// The bits of each identifier's frame, up to [`TOO_MANY_BITS`].
-fn bits_by_frame(rows: &[MatrixRow]) -> [u32; 2048]
-    requires { All RowInRange rows.now }
-    ensures { (id : ℕ) → id ≤ 2047 → slice_index result id ≡ min TOO_MANY_BITS (bits_in_frame rows.now id) }
+/// Whether the rows' parts can stand in one matrix.
+fn stand_together(row: &MatrixRow, other: &MatrixRow) -> bool
+    ensures { IsTrue result ↔ StandTogether row.now other.now }
 {
-    let mut bits_of = [0; 2048];
-    for row in rows {
-        let id = row.id as usize;
-        bits_of[id] = TOO_MANY_BITS.min(bits_of[id] + row.bits);
-    }
-    bits_of
+    are_of_one_kind(row, other) && are_in_one_part(row, other) && begin_apart(row, other)
 }
 
-/// Whether the row's frame has the size and the ticks of so many bits, and the row lies in it.
-fn fits(network: &Network, row: &MatrixRow, bits: u32) -> bool
-    requires network { NetworkStands network.now }
-    requires in_range { RowInRange row.now }
-    requires bits { bits ≤ TOO_MANY_BITS }
-    ensures { IsTrue result ↔ FitsBits network.now row.now bits }
+/// Whether both rows are of free signals or both of I-PDUs, if they are of one frame.
+fn are_of_one_kind(row: &MatrixRow, other: &MatrixRow) -> bool
+    ensures { IsTrue result ↔ SameKind row.now other.now }
 {
-    let bytes = bits.div_ceil(8);
-    has_length(network, row, bytes) && lies_inside(row, bytes)
+    row.id != other.id || row.pdu.is_some() == other.pdu.is_some()
 }
 
-/// Whether the row's frame has the size and the ticks of so many bytes.
-fn has_length(network: &Network, row: &MatrixRow, bytes: u32) -> bool
-    requires network { NetworkStands network.now }
-    requires in_range { RowInRange row.now }
-    ensures { IsTrue result ↔ ((fd_size_of bytes ≡ Some row.now.size) × (row.now.ticks ≡ worst_ticks_of network.now row.now.size)) }
+/// Whether the rows stand in one part of one frame, if they are of one I-PDU.
+fn are_in_one_part(row: &MatrixRow, other: &MatrixRow) -> bool
+    ensures { IsTrue result ↔ SamePart row.now other.now }
 {
-    match fd_size(bytes) {
-        Some(size) => size == row.size && row.ticks == worst_ticks(network, row.size),
-        None => false,
-    }
+    row.pdu.is_none() || row.pdu != other.pdu || (row.id == other.id && row.at == other.at)
 }
 
-/// Whether the row lies in its part, which has so many bytes.
-fn lies_inside(row: &MatrixRow, bytes: u32) -> bool
-    requires in_range { RowInRange row.now }
-    requires few { bytes ≤ 65 }
-    ensures { IsTrue result ↔ ((8 * row.now.at ≤ row.now.start) × (row.now.start + row.now.bits ≤ 8 * (row.now.at + bytes))) }
+/// Whether the rows' parts begin at different bytes, if they are different parts of one container.
+fn begin_apart(row: &MatrixRow, other: &MatrixRow) -> bool
+    ensures { IsTrue result ↔ BeginApart row.now other.now }
 {
-    8 * row.at <= row.start && row.start + row.bits <= 8 * (row.at + bytes)
+    row.id != other.id
+        || row.header == Header::NoHeader
+        || row.at != other.at
+        || row.pdu == other.pdu
 }

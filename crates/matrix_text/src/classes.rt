@@ -1,37 +1,36 @@
-//! The signals of each class.
-ghost use Rattle.std.specs.Prelude.{◌≡◌, ◌<◌, [], All, IfOk, length, map, replicate};
+//! The items of each class.
+ghost use Rattle.std.specs.Prelude.{◌≡◌, ◌<◌, ◌^◌, [], All, IfOk, length, map, replicate};
 ghost use Rattle.std.specs.List.{range_with_len};
-ghost use Rattle.matrix_text.specs.LaidOut.{places_of_class};
+ghost use Rattle.matrix_text.specs.ClassItems.{numbers_of_class};
 
-use pack_model::{Item, Memory};
+use pack_model::Memory;
 use std::alloc::Global;
 
-/// The list places of the signals of each of the first `classes` classes.
-pub fn places_by_class(
+/// The numbers of the items of each of the first `classes` classes, ascending.
+pub fn items_by_class(
     alloc: Global,
-    items: &[Item],
     labels: &[u32],
     classes: usize,
 ) -> Result<Vec<Vec<u32>>, Memory>
-    requires each { length labels.now ≡ length items.now }
+    requires few { length labels.now < 2 ^ 32 }
     requires below { All (λ label. label < classes) labels.now }
-    ensures { IfOk result (λ places. map (λ class. class.items) places.items ≡ map (places_of_class items.now labels.now) (range_with_len 0 classes)) }
+    ensures { IfOk result (λ numbers. map (λ class. class.items) numbers.items ≡ map (numbers_of_class labels.now) (range_with_len 0 classes)) }
 {
-    let mut places = empty_classes(alloc, classes)?;
-    for (number, item) in items.iter().enumerate() {
-        let class = &mut places[labels[number] as usize];
-        class.extend_from_slice(item.members.as_slice())?;
+    let mut numbers = empty_classes(alloc, classes)?;
+    for (number, &label) in labels.iter().enumerate() {
+        let class = &mut numbers[label as usize];
+        class.push(number as u32)?;
     }
-    Ok(places)
+    Ok(numbers)
 }
 
-/// So many classes with no signal.
+/// So many classes with no item.
 fn empty_classes(alloc: Global, classes: usize) -> Result<Vec<Vec<u32>>, Memory>
-    ensures { IfOk result (λ places. map (λ class. class.items) places.items ≡ replicate classes []) }
+    ensures { IfOk result (λ numbers. map (λ class. class.items) numbers.items ≡ replicate classes []) }
 {
-    let mut places = Vec::with_capacity(alloc, classes)?;
+    let mut numbers = Vec::with_capacity(alloc, classes)?;
     for _ in 0..classes {
-        places.push(Vec::new(alloc))?;
+        numbers.push(Vec::new(alloc))?;
     }
-    Ok(places)
+    Ok(numbers)
 }

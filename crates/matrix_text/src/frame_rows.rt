@@ -1,53 +1,85 @@
-//! The rows of one frame.
-ghost use Rattle.std.specs.Prelude.{◌≡◌, ◌≤◌, ◌<◌, ◌++◌, All, IfOk, OnOk, length, sum};
-ghost use Rattle.pack_model.specs.Network.{NetworkStands};
+//! The rows of one frame, part by part.
+ghost use Rattle.std.specs.Prelude.{◌≡◌, ◌≤◌, ◌<◌, ◌+◌, ◌*◌, ◌++◌, All, IfOk, OnOk, length, sum};
+ghost use Rattle.std.specs.List.{flat_map};
 ghost use Rattle.pack_model.specs.Signal.{SignalStands};
-ghost use Rattle.matrix_text.specs.LaidOut.{row_with, rows_of_frame, signals_at, widths_of};
+ghost use Rattle.container_pdu.specs.Class.{ClassStands};
+ghost use Rattle.matrix_text.specs.ClassItems.{bytes_with, figures, items_at};
+ghost use Rattle.matrix_text.specs.LaidOut.{figures_of, parts_from, rows_of_items, rows_of_part, signals_at, widths_of};
 
+use crate::class_items::places_at;
+use crate::frame::Frame;
 use crate::matrix::MatrixRow;
 use container_pdu::Header;
-use fd_length::fd_size;
-use frame_ticks::worst_ticks;
 use ipdu_layout::lay;
-use pack_model::{Memory, Network, Signal};
+use pack_model::{Memory, Problem, Signal};
 use std::alloc::Global;
 
-/// What the rows of one frame share.
-#[derive(Clone, Copy)]
-struct Frame {
-    /// The frame's identifier.
-    id: u32,
-    /// The frame's data length in bytes.
-    size: u32,
-    /// The frame's greatest length in ticks.
-    ticks: u64,
-}
-
-/// Adds the rows of the frame of an identifier, whose signals stand at these list places.
+/// Adds the rows of a frame that has the items of these numbers.
 pub fn add_frame(
     alloc: Global,
-    network: &Network,
-    id: u32,
+    frame: &Frame,
+    problem: &Problem,
+    numbers: &[u32],
+    rows: &mut Vec<MatrixRow>,
+) -> Result<(), Memory>
+    requires inside { All (λ number. number < length problem.now.items) numbers.now }
+    requires class { ClassStands (items_at problem.now.items numbers.now) }
+    requires frame { figures frame.now ≡ figures_of problem.now.network frame.now.id (items_at problem.now.items numbers.now) }
+    ensures { OnOk result (rows.new.items ≡ rows.old.items ++ rows_of_items problem.now.network frame.now.id problem.now.signals (items_at problem.now.items numbers.now)) }
+{
+    match frame.header {
+        Header::NoHeader => {
+            let places = places_at(alloc, problem.items(), numbers)?;
+            add_part(alloc, frame, 0, problem.signals(), places.as_slice(), rows)
+        }
+        _ => add_parts(alloc, frame, problem, numbers, rows),
+    }
+}
+
+/// Adds the rows of the items of these numbers, which stand one after another, each after its header.
+fn add_parts(
+    alloc: Global,
+    frame: &Frame,
+    problem: &Problem,
+    numbers: &[u32],
+    rows: &mut Vec<MatrixRow>,
+) -> Result<(), Memory>
+    requires inside { All (λ number. number < length problem.now.items) numbers.now }
+    requires room { bytes_with frame.now.header (items_at problem.now.items numbers.now) ≤ 64 }
+    ensures { OnOk result (rows.new.items ≡ rows.old.items ++ flat_map (rows_of_part (figures frame.now) problem.now.signals) (parts_from frame.now.header 0 (items_at problem.now.items numbers.now))) }
+{
+    let items = problem.items();
+    let mut next = 0;
+    for &number in numbers {
+        let item = &items[number as usize];
+        let at = next + frame.header.bytes();
+        let places = item.members.as_slice();
+        add_part(alloc, frame, at, problem.signals(), places, rows)?;
+        next = at + item.bits.div_ceil(8);
+    }
+    Ok(())
+}
+
+/// Adds the rows of a part of a frame that begins at a byte: the signals at these list places, one after another.
+fn add_part(
+    alloc: Global,
+    frame: &Frame,
+    at: u32,
     signals: &[Signal],
     places: &[u32],
     rows: &mut Vec<MatrixRow>,
 ) -> Result<(), Memory>
-    requires network { NetworkStands network.now }
     requires signals { All SignalStands signals.now }
     requires inside { All (λ place. place < length signals.now) places.now }
-    requires small { sum (widths_of (signals_at signals.now places.now)) ≤ 512 }
-    ensures { OnOk result (rows.new.items ≡ rows.old.items ++ rows_of_frame network.now id (signals_at signals.now places.now)) }
+    requires room { 8 * at + sum (widths_of (signals_at signals.now places.now)) ≤ 512 }
+    ensures { OnOk result (rows.new.items ≡ rows.old.items ++ rows_of_part (figures frame.now) signals.now (record { at = at; places = places.now })) }
 {
     let widths = widths_at(alloc, signals, places)?;
     let mut starts = vec![in alloc; 0; places.len()]?;
-    let bytes = lay(widths.as_slice(), starts.as_mut_slice());
-    let Some(size) = fd_size(bytes) else {
-        unreachable!()
-    };
-    let ticks = worst_ticks(network, size);
-    let frame = Frame { id, size, ticks };
+    lay(widths.as_slice(), starts.as_mut_slice());
     for (number, &place) in places.iter().enumerate() {
-        let row = frame.row_of(&signals[place as usize], starts[number])?;
+        let start = 8 * at + starts[number];
+        let row = frame.row_of(at, start, &signals[place as usize])?;
         rows.push(row)?;
     }
     Ok(())
@@ -63,24 +95,4 @@ fn widths_at(alloc: Global, signals: &[Signal], places: &[u32]) -> Result<Vec<u3
         widths.push(signals[place as usize].bits)?;
     }
     Ok(widths)
-}
-
-impl Frame {
-    /// The row of a free signal of the frame, which begins at position `start`.
-    fn row_of(&self, signal: &Signal, start: u32) -> Result<MatrixRow, Memory>
-        ensures { IfOk result (λ row. row ≡ row_with self.now.id self.now.size self.now.ticks start signal.now) }
-    {
-        Ok(MatrixRow {
-            id: self.id,
-            sender: signal.sender.clone()?,
-            size: self.size,
-            ticks: self.ticks,
-            header: Header::NoHeader,
-            pdu: signal.pdu,
-            at: 0,
-            signal: signal.name.clone()?,
-            start,
-            bits: signal.bits,
-        })
-    }
 }

@@ -1,10 +1,9 @@
 //! The numbers of frames.
-ghost use Rattle.std.specs.Prelude.{◌≡◌, ◌≤◌, ◌<◌, ℕ, ◌∷◌, [], All, length, slice_index, slice_index_or, take};
+ghost use Rattle.std.specs.Prelude.{◌≡◌, ◌≤◌, All, length, slice_index, slice_index_or, take};
 ghost use Rattle.pack_model.specs.Problem.{IsProblem, IsSorted};
 ghost use Rattle.matrix_text.specs.Frames.{frames_of, grouping_of};
-ghost use Rattle.matrix_text.specs.declared.matrix.MatrixRow.{MatrixRow};
 ghost use Rattle.matrix_text.specs.Row.{RowInRange};
-ghost use Rattle.matrix_text.specs.Tables.{HasRows, HasLabels, in_use};
+ghost use Rattle.matrix_text.specs.Tables.{FirstFound, HasRows, HasLabels, in_use};
 
 use crate::matrix::MatrixRow;
 use pack_model::{Item, Problem};
@@ -32,7 +31,7 @@ pub fn number_frames(
     let mut label_of = [NO_LABEL; 2048];
     let mut frames = 0;
     for (number, item) in items.iter().enumerate() {
-        let id = frame_of(rows, row_of, item);
+        let id = first_row(rows, row_of, item).id as usize;
         if label_of[id] == NO_LABEL {
             label_of[id] = frames;
             frames += 1;
@@ -42,14 +41,15 @@ pub fn number_frames(
     label_of
 }
 
-/// The identifier of an item's frame.
-fn frame_of(rows: &[MatrixRow], row_of: &[usize; 2048], item: &Item) -> usize
+/// The row of an item's first signal.
+pub fn first_row<'a>(rows: &'a [MatrixRow], row_of: &[usize; 2048], item: &Item) -> &'a MatrixRow
     requires in_range { All RowInRange rows.now }
-    requires member { (m : ℕ) × (item.now.members ≡ m ∷ []) × (m < 2048) × (slice_index row_of.now m < length rows.now) }
-    ensures { (row : MatrixRow) × (row ≡ slice_index_or rows.now (slice_index row_of.now (slice_index item.now.members 0)) row) × (result ≡ row.id) × (result ≤ 2047) }
+    requires member { FirstFound rows.now row_of.now item.now }
+    ensures in_range { RowInRange result.now }
+    ensures row { result.now ≡ slice_index_or rows.now (slice_index row_of.now (slice_index item.now.members 0)) result.now }
 {
     let first = item.members.as_slice()[0] as usize;
-    rows[row_of[first]].id as usize
+    &rows[row_of[first]]
 }
 
 /// Puts the labels in use at the front of `order`, by ascending identifier, and counts them.

@@ -4,7 +4,8 @@ ghost use Rattle.matrix_text.specs.Frames.{frames_of, grouping_of, order_of};
 ghost use Rattle.matrix_text.specs.OnePlace.{OnePlace};
 ghost use Rattle.matrix_text.specs.Placed.{Placed};
 
-use crate::checks::{are_plain, fill_frames, frames_agree};
+use crate::checks::{frames_agree, parts_agree};
+use crate::fits::rows_fit;
 use crate::frames::{number_frames, put_in_order};
 use crate::matrix::Matrix;
 use crate::overlap::are_apart;
@@ -32,7 +33,7 @@ pub fn labels_of(
 {
     let rows = matrix.rows();
     let row_of = find_rows(problem, rows)?;
-    if !frames_agree(rows) || !are_plain(rows) || !fill_frames(problem.network(), rows) {
+    if !frames_agree(rows) || !parts_agree(rows) || !rows_fit(problem, rows, &row_of) {
         return None;
     }
     let label_of = number_frames(problem, rows, &row_of, labels);

@@ -1,13 +1,15 @@
 //! The communication matrix of a grouping.
-ghost use Rattle.std.specs.Prelude.{◌≡◌, IfOk};
+ghost use Rattle.std.specs.Prelude.{◌≡◌, IfOk, length};
 ghost use Rattle.std.specs.List.{range_with_len};
-ghost use Rattle.pack_model.specs.Grouping.{IsLegal, IsOrder};
+ghost use Rattle.pack_model.specs.Grouping.{IsOrder};
+ghost use Rattle.container_pdu.specs.Class.{IsLegal};
 ghost use Rattle.pack_model.specs.Problem.{IsProblem, IsSorted};
 ghost use Rattle.matrix_text.specs.Frames.{grouping_of, order_of};
 ghost use Rattle.matrix_text.specs.LaidOut.{rows_of, rows_one_each};
 ghost use Rattle.matrix_text.specs.Placed.{Placed};
 
-use crate::classes::places_by_class;
+use crate::classes::items_by_class;
+use crate::frame::frame_of;
 use crate::frame_rows::add_frame;
 use crate::matrix::{Matrix, MatrixRow};
 use pack_model::{Memory, Problem};
@@ -38,6 +40,8 @@ pub fn matrix_of(
 pub fn one_frame_each(alloc: Global, problem: &Problem) -> Result<Matrix, Memory>
     ensures rows { IfOk result (λ matrix. matrix ≡ rows_one_each problem.now) }
     ensures placed { IfOk result (λ matrix. Placed problem.now matrix) }
+    ensures grouping { IfOk result (λ matrix. grouping_of problem.now matrix ≡ range_with_len 0 (length problem.now.items)) }
+    ensures order { IfOk result (λ matrix. order_of problem.now matrix ≡ range_with_len 0 (length problem.now.items)) }
 {
     let numbers = numbers_below(alloc, problem.items().len() as u32)?;
     matrix_of(alloc, problem, numbers.as_slice(), numbers.as_slice())
@@ -64,13 +68,14 @@ fn laid_rows(
     ensures sorted { IsSorted problem.now.signals problem.now.items }
 {
     let network = problem.network();
-    let signals = problem.signals();
-    let places = places_by_class(alloc, problem.items(), labels, order.len())?;
-    let mut rows = Vec::with_capacity(alloc, signals.len())?;
+    let items = problem.items();
+    let classes = items_by_class(alloc, labels, order.len())?;
+    let mut rows = Vec::with_capacity(alloc, problem.signals().len())?;
     for (number, &label) in order.iter().enumerate() {
         let id = network.first_id + number as u32;
-        let class = places[label as usize].as_slice();
-        add_frame(alloc, network, id, signals, class, &mut rows)?;
+        let class = classes[label as usize].as_slice();
+        let frame = frame_of(alloc, network, id, items, class)?;
+        add_frame(alloc, &frame, problem, class, &mut rows)?;
     }
     Ok(rows)
 }

@@ -5,7 +5,10 @@
 #![tactic(auto)]
 
 mod checks;
+mod class_items;
 mod classes;
+mod fits;
+mod frame;
 mod frame_rows;
 mod frames;
 mod labels;
@@ -13,6 +16,7 @@ mod layout;
 mod matrix;
 mod overlap;
 mod signal_rows;
+mod tally;
 mod text;
 
 pub use labels::labels_of;

@@ -1,52 +1,54 @@
-use Rattle.std.proofs.Common.{◌≡◌, ◌≤◌, ◌<◌, All, length, sum, sym, ap, ◌∙◌, arith, subst, ◌++◌, ◌∷◌, [], take, get_or, append_assoc}
-use Rattle.std.specs.Option.{unwrap_or}
-use Rattle.std.proofs.lemmas.List.{take_all, length-map, get_or_default, with_items_is}
-use Rattle.std.proofs.lemmas.List.FromFn.{length-enumerate_from}
-use Rattle.fd_length.specs.Size.{fd_size_of}
-use Rattle.ipdu_layout.specs.Layout.{bytes_of, start_of}
-use Rattle.pack_model.specs.Signal.{SignalStands}
-use Rattle.matrix_text.specs.LaidOut.{rows_of_frame, size_of_frame, signals_at, widths_of}
-use Rattle.matrix_text.proofs.FrameSteps.{length-signals_at, All-signals_at, length-le-widths, widths_in_range, frame_more}
+use Rattle.std.proofs.Common.{◌≡◌, ◌<◌, ◌++◌, All, OnOk, length, sum, sym, ap, ◌∙◌, arith, subst, append-nil}
+use Rattle.std.specs.List.{flat_map}
+use Rattle.container_pdu.specs.declared.header.Header.TheVariants.{NoHeader}
+use Rattle.container_pdu.specs.Class.{header_of_items}
+use Rattle.matrix_text.specs.ClassItems.{bytes_with, figures, items_at, places_of_items}
+use Rattle.matrix_text.specs.LaidOut.{FrameFigures, figures_of, parts_with, parts_from, rows_of_part, signals_at, widths_of}
+use Rattle.matrix_text.proofs.ClassLaws.{few_under_headers}
+use Rattle.matrix_text.proofs.PartsFit.{ItemFits, items_fit, one_part_fits, parts_with-headers}
+use Rattle.matrix_text.proofs.Picked.{All-pick}
 use Rattle.matrix_text.proofs.frame_rows.add_frame.Goals as goal
 
-pub lay-bytes-requires-clause-same_length : goal.lay-bytes-requires-clause-same_length
-lay-bytes-requires-clause-same_length c =
-    let long : length c.as_slice.result.now ≡ length (widths_of (signals_at c.args.signals.now c.args.places.now)) = ap length (c.as_slice.ensures.value ∙ c.in_ok-widths.ensures) in
-    omega (arith, long, c.as_mut_slice.ensures.len, c.in_ok-starts.ensures.len, length-map (signals_at c.args.signals.now c.args.places.now) (λ s. s.bits), length-signals_at c.args.signals.now c.args.places.now c.requires.inside)
+pub add_part-requires-clause-inside : goal.add_part-requires-clause-inside
+add_part-requires-clause-inside c =
+    let header : header_of_items (items_at c.args.problem.now.items c.args.numbers.now) ≡ NoHeader = sym (ap (λ (f : FrameFigures). f.header) c.requires.frame) ∙ c.in-NoHeader.is in
+    let all = All-pick (ItemFits c.args.problem.now.signals) c.args.problem.now.items c.args.numbers.now (items_fit c.args.problem.now c.items.ensures.problem c.items.ensures.sorted) c.requires.inside in
+    let fits = one_part_fits c.args.problem.now.signals (items_at c.args.problem.now.items c.args.numbers.now) all c.requires.class header in
+    let places : c.as_slice.result.now ≡ places_of_items (items_at c.args.problem.now.items c.args.numbers.now) = c.as_slice.ensures.value ∙ c.in_ok-places-in-NoHeader.ensures ∙ ap (λ items. places_of_items (items_at items c.args.numbers.now)) c.items.ensures.items in
+    subst (λ signals. All (λ place. place < length signals) c.as_slice.result.now) (sym c.signals.ensures.signals) (subst (All (λ place. place < length c.args.problem.now.signals)) (sym places) fits.inside)
 
-pub lay-bytes-requires-clause-few : goal.lay-bytes-requires-clause-few
-lay-bytes-requires-clause-few c =
-    let long : length c.as_slice.result.now ≡ length (widths_of (signals_at c.args.signals.now c.args.places.now)) = ap length (c.as_slice.ensures.value ∙ c.in_ok-widths.ensures) in
-    let most = length-le-widths (signals_at c.args.signals.now c.args.places.now) (All-signals_at SignalStands c.args.signals.now c.args.places.now c.requires.signals c.requires.inside) in
-    omega (arith, long, most, length-map (signals_at c.args.signals.now c.args.places.now) (λ s. s.bits), c.requires.small)
+pub add_part-requires-clause-room : goal.add_part-requires-clause-room
+add_part-requires-clause-room c =
+    let header : header_of_items (items_at c.args.problem.now.items c.args.numbers.now) ≡ NoHeader = sym (ap (λ (f : FrameFigures). f.header) c.requires.frame) ∙ c.in-NoHeader.is in
+    let all = All-pick (ItemFits c.args.problem.now.signals) c.args.problem.now.items c.args.numbers.now (items_fit c.args.problem.now c.items.ensures.problem c.items.ensures.sorted) c.requires.inside in
+    let fits = one_part_fits c.args.problem.now.signals (items_at c.args.problem.now.items c.args.numbers.now) all c.requires.class header in
+    let places : c.as_slice.result.now ≡ places_of_items (items_at c.args.problem.now.items c.args.numbers.now) = c.as_slice.ensures.value ∙ c.in_ok-places-in-NoHeader.ensures ∙ ap (λ items. places_of_items (items_at items c.args.numbers.now)) c.items.ensures.items in
+    omega (arith, fits.room, ap (λ signals. sum (widths_of (signals_at signals c.as_slice.result.now))) c.signals.ensures.signals, ap (λ ps. sum (widths_of (signals_at c.args.problem.now.signals ps))) places)
 
-pub lay-bytes-requires-clause-in_range : goal.lay-bytes-requires-clause-in_range
-lay-bytes-requires-clause-in_range c =
-    subst (All (λ width. (1 ≤ width) × (width ≤ 512))) (sym (c.as_slice.ensures.value ∙ c.in_ok-widths.ensures))
-    (widths_in_range (signals_at c.args.signals.now c.args.places.now) (All-signals_at SignalStands c.args.signals.now c.args.places.now c.requires.signals c.requires.inside))
+pub add_parts-requires-clause-room : goal.add_parts-requires-clause-room
+add_parts-requires-clause-room c =
+    let same : c.args.frame.now.header ≡ header_of_items (items_at c.args.problem.now.items c.args.numbers.now) = ap (λ (f : FrameFigures). f.header) c.requires.frame in
+    let few = few_under_headers (items_at c.args.problem.now.items c.args.numbers.now) c.requires.class (λ none. c.in_default.not-NoHeader (same ∙ none)) in
+    omega (arith, few, ap (λ kind. bytes_with kind (items_at c.args.problem.now.items c.args.numbers.now)) same)
 
-pub loop-number-preserved : goal.loop-number-preserved
-loop-number-preserved c =
-    let widths : c.as_slice.result.now ≡ widths_of (signals_at c.args.signals.now c.args.places.now) = c.as_slice.ensures.value ∙ c.in_ok-widths.ensures in
-    let size : c.in-Some.size ≡ size_of_frame (signals_at c.args.signals.now c.args.places.now) =
-    ap (λ o. unwrap_or o 0) c.in-Some.ensures.value ∙ ap (λ n. unwrap_or (fd_size_of n) 0) (c.lay-bytes.ensures.bytes ∙ ap (λ ws. bytes_of (sum ws)) widths) in
-    let long : length c.lay-bytes.new.starts ≡ c.in_ok-starts.starts.len = omega (arith, c.lay-bytes.auto.starts, c.as_mut_slice.ensures.len, c.in_ok-starts.ensures.len) in
-    let within : c.loop-number.number < length c.lay-bytes.new.starts = omega (arith, c.in_ok-starts.ensures.len) in
-    let start =
-    ap (λ xs. get_or xs c.loop-number.number c.index.result.now) (with_items_is c.in_ok-starts.starts c.lay-bytes.new.starts long)
-    ∙ get_or_default c.lay-bytes.new.starts c.loop-number.number c.index.result.now 0 within
-    ∙ c.lay-bytes.ensures.starts c.loop-number.number within
-    ∙ ap (λ ws. start_of ws c.loop-number.number) widths in
-    c.in_ok-push.ensures.items
-    ∙ ap (λ rows. rows ++ c.in_ok-row.row ∷ []) c.loop-number.invariant
-    ∙ append_assoc c.args.rows.now.items (take c.loop-number.number (rows_of_frame c.args.network.now c.args.id (signals_at c.args.signals.now c.args.places.now))) (c.in_ok-row.row ∷ [])
-    ∙ ap (λ rows. c.args.rows.now.items ++ rows)
-    (ap (λ row. take c.loop-number.number (rows_of_frame c.args.network.now c.args.id (signals_at c.args.signals.now c.args.places.now)) ++ row ∷ []) c.in_ok-row.ensures
-    ∙ sym (frame_more c.args.network.now c.args.id c.args.signals.now c.args.places.now c.requires.inside c.loop-number.number c.index-signals-place.result c.in-Some.size c.worst_ticks-ticks.result c.index.result.now (omega arith) c.index-signals-place.is size c.worst_ticks-ticks.ensures.value (c.index.ensures ∙ start)))
+pub returns-in_ok-places-in-NoHeader : goal.returns-in_ok-places-in-NoHeader
+returns-in_ok-places-in-NoHeader c =
+    let header : header_of_items (items_at c.args.problem.now.items c.args.numbers.now) ≡ NoHeader = sym (ap (λ (f : FrameFigures). f.header) c.requires.frame) ∙ c.in-NoHeader.is in
+    let places : c.as_slice.result.now ≡ places_of_items (items_at c.args.problem.now.items c.args.numbers.now) = c.as_slice.ensures.value ∙ c.in_ok-places-in-NoHeader.ensures ∙ ap (λ items. places_of_items (items_at items c.args.numbers.now)) c.items.ensures.items in
+    let rows =
+    ap (λ signals. rows_of_part (figures c.args.frame.now) signals (record { at = 0; places = c.as_slice.result.now })) c.signals.ensures.signals
+    ∙ ap (λ ps. rows_of_part (figures c.args.frame.now) c.args.problem.now.signals (record { at = 0; places = ps })) places
+    ∙ ap (λ f. rows_of_part f c.args.problem.now.signals (record { at = 0; places = places_of_items (items_at c.args.problem.now.items c.args.numbers.now) })) c.requires.frame
+    ∙ sym (append-nil (rows_of_part (figures_of c.args.problem.now.network c.args.frame.now.id (items_at c.args.problem.now.items c.args.numbers.now)) c.args.problem.now.signals (record { at = 0; places = places_of_items (items_at c.args.problem.now.items c.args.numbers.now) })))
+    ∙ ap (λ kind. flat_map (rows_of_part (figures_of c.args.problem.now.network c.args.frame.now.id (items_at c.args.problem.now.items c.args.numbers.now)) c.args.problem.now.signals) (parts_with kind (items_at c.args.problem.now.items c.args.numbers.now))) (sym header) in
+    subst (λ more. OnOk c.add_part.result (c.add_part.new.rows.items ≡ c.args.rows.now.items ++ more)) rows c.add_part.ensures
 
--- the loop went over all places
-pub returns : goal.returns
-returns c =
-    let all : length (rows_of_frame c.args.network.now c.args.id (signals_at c.args.signals.now c.args.places.now)) ≤ c.loop-number.number =
-    simp (length-map, length-enumerate_from) (omega (arith, length-signals_at c.args.signals.now c.args.places.now c.requires.inside)) in
-    c.loop-number.invariant ∙ ap (λ rows. c.args.rows.now.items ++ rows) (take_all c.loop-number.number (rows_of_frame c.args.network.now c.args.id (signals_at c.args.signals.now c.args.places.now)) all)
+pub returns-in_default : goal.returns-in_default
+returns-in_default c =
+    let same : c.args.frame.now.header ≡ header_of_items (items_at c.args.problem.now.items c.args.numbers.now) = ap (λ (f : FrameFigures). f.header) c.requires.frame in
+    let rows =
+    ap (λ f. flat_map (rows_of_part f c.args.problem.now.signals) (parts_from c.args.frame.now.header 0 (items_at c.args.problem.now.items c.args.numbers.now))) c.requires.frame
+    ∙ ap (λ parts. flat_map (rows_of_part (figures_of c.args.problem.now.network c.args.frame.now.id (items_at c.args.problem.now.items c.args.numbers.now)) c.args.problem.now.signals) parts)
+    (sym (parts_with-headers c.args.frame.now.header (items_at c.args.problem.now.items c.args.numbers.now) c.in_default.not-NoHeader)
+    ∙ ap (λ kind. parts_with kind (items_at c.args.problem.now.items c.args.numbers.now)) same) in
+    subst (λ more. OnOk c.add_parts.result (c.add_parts.new.rows.items ≡ c.args.rows.now.items ++ more)) rows c.add_parts.ensures

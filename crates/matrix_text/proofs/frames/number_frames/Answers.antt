@@ -5,7 +5,7 @@ use Rattle.pack_model.proofs.Laws.{tests}
 use Rattle.matrix_text.specs.Frames.{identifiers_of, grouping_of}
 use Rattle.matrix_text.specs.Tables.{no_label, HasLabels}
 use Rattle.matrix_text.proofs.Numbering.{firsts, step_known, step_new, few}
-use Rattle.matrix_text.proofs.FramesFound.{member_of, identifier_is, labels_more}
+use Rattle.matrix_text.proofs.FramesFound.{first_found, identifier_is, labels_more}
 use Rattle.matrix_text.proofs.frames.number_frames.Goals as goal
 use Rattle.matrix_text.proofs.frames.number_frames.Goals.{then-label_of-id, else-label_of-id}
 
@@ -17,12 +17,10 @@ loop-number-init c = record {
   labels = refl;
 }
 
-pub frame_of-id-requires-clause-member : goal.frame_of-id-requires-clause-member
-frame_of-id-requires-clause-member c =
-    let items : c.items-items.result.now ≡ c.args.problem.now.items = c.items-items.ensures.items in
-    let lt : c.loop-number.number < length c.args.problem.now.items = omega (arith, ap length items) in
-    let (m, alone, within) = member_of c.args.problem.now.signals c.args.problem.now.items c.loop-number.number c.index-items-number.result c.items-items.ensures.sorted lt (c.index-items-number.is ∙ ap (λ is. get_or is c.loop-number.number c.index-items-number.result) items) in
-    (m, alone, omega (arith, within, (tests c.args.problem.now c.items-items.ensures.problem).few), (c.requires.rows m within).0)
+pub first_row-requires-clause-member : goal.first_row-requires-clause-member
+first_row-requires-clause-member c =
+    first_found c.args.problem.now c.items-items.ensures.sorted c.args.rows.now c.args.row_of.now c.requires.rows c.items-items.result.now c.items-items.ensures.items c.loop-number.number c.index-items-number.result c.loop-number-test.true c.index-items-number.is
+    (tests c.args.problem.now c.items-items.ensures.problem).few
 
 pub overflow_add-frames : goal.overflow_add-frames
 overflow_add-frames c =
@@ -37,30 +35,28 @@ loop-number-preserved c =
     let lt_ids : c.loop-number.number < length (identifiers_of c.args.problem.now c.args.rows.now) = simp length-map lt in
     let small : length (identifiers_of c.args.problem.now c.args.rows.now) ≤ 128 = simp length-map (tests c.args.problem.now c.items-items.ensures.problem).few_items in
     let room : c.loop-number.number < length c.loop-number.labels = omega (arith, lt, c.loop-number.auto.labels, c.requires.labels) in
-    let (row, is, result, low) = c.frame_of-id.ensures in
-    let at : get_or (identifiers_of c.args.problem.now c.args.rows.now) c.loop-number.number 0 ≡ c.frame_of-id.result =
-    identifier_is c.args.problem.now c.args.rows.now c.args.row_of.now c.loop-number.number c.index-items-number.result row c.items-items.ensures.sorted c.requires.rows lt
-    (c.index-items-number.is ∙ ap (λ is. get_or is c.loop-number.number c.index-items-number.result) items) is ∙ sym result in
-    let below : c.frame_of-id.result < 2048 = omega arith in
+    let at : get_or (identifiers_of c.args.problem.now c.args.rows.now) c.loop-number.number 0 ≡ c.first_row.result.now.id =
+    identifier_is c.args.problem.now c.items-items.ensures.sorted c.args.rows.now c.args.row_of.now c.requires.rows c.items-items.result.now items c.loop-number.number c.index-items-number.result c.loop-number-test.true c.index-items-number.is c.first_row.result.now c.first_row.ensures.row in
+    let below : c.first_row.result.now.id < 2048 = omega (arith, c.first_row.ensures.in_range.id) in
     elim c.if-label_of-id.branch [
       | then-label_of-id w ↦
-          let step = step_new (identifiers_of c.args.problem.now c.args.rows.now) c.loop-number.number c.frame_of-id.result lt_ids at c.loop-number.label_of c.loop-number.frames below c.loop-number.invariant.long small c.loop-number.invariant.table c.loop-number.invariant.frames w.if-label_of-id.true in
-          let inside : c.frame_of-id.result < length c.loop-number.label_of = omega (arith, below, c.loop-number.invariant.long) in
+          let step = step_new (identifiers_of c.args.problem.now c.args.rows.now) c.loop-number.number c.first_row.result.now.id lt_ids at c.loop-number.label_of c.loop-number.frames below c.loop-number.invariant.long small c.loop-number.invariant.table c.loop-number.invariant.frames w.if-label_of-id.true in
+          let inside : c.first_row.result.now.id < length c.loop-number.label_of = omega (arith, below, c.loop-number.invariant.long) in
           record {
             long = ap length w.label_of-is ∙ length-set _ _ _ ∙ c.loop-number.invariant.long;
             table = subst (HasLabels (firsts (identifiers_of c.args.problem.now c.args.rows.now) (c.loop-number.number + 1))) (sym w.label_of-is) step.0;
             frames = w.frames-is ∙ step.2;
-            labels = labels_more c.args.problem.now c.args.rows.now c.loop-number.labels c.loop-number.number _ c.frame_of-id.result lt room at
-                (ap (λ t. get_or t c.frame_of-id.result 0) w.label_of-is ∙ get_or-set_same c.loop-number.label_of c.frame_of-id.result c.loop-number.frames 0 inside ∙ step.1) c.loop-number.invariant.labels;
+            labels = labels_more c.args.problem.now c.args.rows.now c.loop-number.labels c.loop-number.number _ c.first_row.result.now.id lt room at
+                (ap (λ t. get_or t c.first_row.result.now.id 0) w.label_of-is ∙ get_or-set_same c.loop-number.label_of c.first_row.result.now.id c.loop-number.frames 0 inside ∙ step.1) c.loop-number.invariant.labels;
           }
       | else-label_of-id w ↦
-          let step = step_known (identifiers_of c.args.problem.now c.args.rows.now) c.loop-number.number c.frame_of-id.result lt_ids at c.loop-number.label_of c.loop-number.frames below c.loop-number.invariant.table c.loop-number.invariant.frames w.if-label_of-id.false in
+          let step = step_known (identifiers_of c.args.problem.now c.args.rows.now) c.loop-number.number c.first_row.result.now.id lt_ids at c.loop-number.label_of c.loop-number.frames below c.loop-number.invariant.table c.loop-number.invariant.frames w.if-label_of-id.false in
           record {
             long = ap length w.label_of-is ∙ c.loop-number.invariant.long;
             table = subst (HasLabels (firsts (identifiers_of c.args.problem.now c.args.rows.now) (c.loop-number.number + 1))) (sym w.label_of-is) step.0;
             frames = w.frames-is ∙ step.2;
-            labels = labels_more c.args.problem.now c.args.rows.now c.loop-number.labels c.loop-number.number _ c.frame_of-id.result lt room at
-                (ap (λ t. get_or t c.frame_of-id.result 0) w.label_of-is ∙ step.1) c.loop-number.invariant.labels;
+            labels = labels_more c.args.problem.now c.args.rows.now c.loop-number.labels c.loop-number.number _ c.first_row.result.now.id lt room at
+                (ap (λ t. get_or t c.first_row.result.now.id 0) w.label_of-is ∙ step.1) c.loop-number.invariant.labels;
           }
     ]
 

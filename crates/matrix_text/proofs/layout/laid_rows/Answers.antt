@@ -1,90 +1,81 @@
-use Rattle.std.proofs.Common.{◌≡◌, ◌+◌, ◌<◌, ◌++◌, length, All, sum, sym, ap, subst, ◌∙◌, arith, get_or, take}
+use Rattle.std.proofs.Common.{◌<◌, ◌≤◌, ◌+◌, ◌++◌, List, All, length, sym, ap, subst, ◌∙◌, arith, take}
 use Rattle.std.specs.List.{flat_map, enumerate_from}
-use Rattle.std.proofs.lemmas.List.{take_all, get_or_default}
+use Rattle.std.proofs.lemmas.List.{get_or_default, take_all}
 use Rattle.std.proofs.lemmas.List.FromFn.{length-enumerate_from}
-use Rattle.pack_model.specs.Grouping.{classes_of, bits_of_class}
+use Rattle.pack_model.specs.declared.item.Item.{Item}
+use Rattle.pack_model.specs.declared.network.Network.{Network}
+use Rattle.pack_model.proofs.GroupingLaws.{label-lt-classes_of, length-order}
+use Rattle.pack_model.proofs.ItemFacts.{small_items}
 use Rattle.pack_model.proofs.Laws.{tests}
-use Rattle.pack_model.proofs.GroupingLaws.{label-lt-classes_of, classes_of-le-length, length-order}
-use Rattle.pack_model.proofs.ItemLaws.{IsItemOf, items_of_signals}
-use Rattle.matrix_text.specs.LaidOut.{places_of_class, signals_at, widths_of, rows_of_class, rows_of_frame}
+use Rattle.container_pdu.specs.Class.{ClassStands}
+use Rattle.matrix_text.specs.ClassItems.{items_at, numbers_of_class}
+use Rattle.matrix_text.specs.LaidOut.{FrameFigures, rows_of_class, rows_of_items}
+use Rattle.matrix_text.proofs.ClassSteps.{class_numbers, rows_more}
+use Rattle.matrix_text.proofs.LaidRange.{few_frames}
 use Rattle.matrix_text.proofs.LaidSteps.{length_of_classes}
-use Rattle.matrix_text.proofs.ClassSteps.{class_inside, widths_of_class, few_bits, list_of_class, rows_more, signals_at-class}
 use Rattle.matrix_text.proofs.layout.laid_rows.Goals as goal
 
-pub places_by_class-requires-clause-below : goal.places_by_class-requires-clause-below
-places_by_class-requires-clause-below c = λ k d lt.
-    rw (get_or_default c.args.labels.now k d 0 lt) (omega (arith, label-lt-classes_of c.args.labels.now k lt, length-order c.args.labels.now c.args.order.now c.requires.order))
+pub items_by_class-requires-clause-few : goal.items_by_class-requires-clause-few
+items_by_class-requires-clause-few c = omega (arith, c.requires.legal.grouping.each, (tests c.args.problem.now c.items-items.ensures.problem).few_items)
+
+pub items_by_class-requires-clause-below : goal.items_by_class-requires-clause-below
+items_by_class-requires-clause-below c = λ k d lt. omega (arith, length-order c.args.labels.now c.args.order.now c.requires.order, label-lt-classes_of c.args.labels.now k lt, get_or_default c.args.labels.now k d 0 lt)
 
 pub overflow_cast-id : goal.overflow_cast-id
-overflow_cast-id c =
-    omega (arith, length-order c.args.labels.now c.args.order.now c.requires.order, classes_of-le-length c.args.problem.now.items c.args.labels.now c.requires.legal.grouping, (tests c.args.problem.now c.items.ensures.problem).few_items)
+overflow_cast-id c = omega (arith, few_frames c.args.problem.now c.args.labels.now c.args.order.now c.items-items.ensures.problem c.items-items.ensures.sorted c.requires.legal c.requires.order)
 
 pub overflow_add-id : goal.overflow_add-id
 overflow_add-id c =
     omega (
       arith,
-      length-order c.args.labels.now c.args.order.now c.requires.order,
-      classes_of-le-length c.args.problem.now.items c.args.labels.now c.requires.legal.grouping,
-      (tests c.args.problem.now c.items.ensures.problem).few_items,
-      ap (λ network. network.first_id) c.network-network.ensures.network,
-      c.items.ensures.problem.network.first_id_high,
+      few_frames c.args.problem.now c.args.labels.now c.args.order.now c.items-items.ensures.problem c.items-items.ensures.sorted c.requires.legal c.requires.order,
+      c.items-items.ensures.problem.network.first_id_high,
+      ap (λ (n : Network). n.first_id) c.network-network.ensures.network,
     )
 
 pub index-requires : goal.index-requires
 index-requires c =
     omega (
       arith,
-      c.requires.order.only c.loop-number.number 0 (omega arith),
       length-order c.args.labels.now c.args.order.now c.requires.order,
-      length_of_classes c.in_ok-places.places.items (λ class. class.items) (places_of_class c.items.result.now c.args.labels.now) (length c.args.order.now) c.in_ok-places.ensures,
+      c.requires.order.only c.loop-number.number 0 (omega arith),
+      length_of_classes c.in_ok-classes.classes.items (λ class. class.items) (numbers_of_class c.args.labels.now) (length c.args.order.now) c.in_ok-classes.ensures,
     )
+
+pub frame_of-requires-clause-inside : goal.frame_of-requires-clause-inside
+frame_of-requires-clause-inside c =
+    let class = class_numbers c.args.problem.now c.args.labels.now c.args.order.now c.in_ok-classes.classes.items (λ class. class.items) c.loop-number.number c.index.result.now c.as_slice-class.result.now c.items-items.ensures.problem c.requires.legal c.requires.order c.in_ok-classes.ensures (omega arith) c.index.ensures c.as_slice-class.ensures.value in
+    subst (λ (items : List Item). All (λ number. number < length items) c.as_slice-class.result.now) (sym c.items-items.ensures.items) class.inside
+
+pub frame_of-requires-clause-few : goal.frame_of-requires-clause-few
+frame_of-requires-clause-few c =
+    (class_numbers c.args.problem.now c.args.labels.now c.args.order.now c.in_ok-classes.classes.items (λ class. class.items) c.loop-number.number c.index.result.now c.as_slice-class.result.now c.items-items.ensures.problem c.requires.legal c.requires.order c.in_ok-classes.ensures (omega arith) c.index.ensures c.as_slice-class.ensures.value).few
+
+pub frame_of-requires-clause-small : goal.frame_of-requires-clause-small
+frame_of-requires-clause-small c = subst (All (λ item. item.bits ≤ 512)) (sym c.items-items.ensures.items) (small_items c.args.problem.now c.items-items.ensures.problem)
+
+pub frame_of-requires-clause-class : goal.frame_of-requires-clause-class
+frame_of-requires-clause-class c =
+    let class = class_numbers c.args.problem.now c.args.labels.now c.args.order.now c.in_ok-classes.classes.items (λ class. class.items) c.loop-number.number c.index.result.now c.as_slice-class.result.now c.items-items.ensures.problem c.requires.legal c.requires.order c.in_ok-classes.ensures (omega arith) c.index.ensures c.as_slice-class.ensures.value in
+    subst (λ items. ClassStands (items_at items c.as_slice-class.result.now)) (sym c.items-items.ensures.items) class.stands
 
 pub add_frame-requires-clause-inside : goal.add_frame-requires-clause-inside
 add_frame-requires-clause-inside c =
-    let long : length c.args.order.now ≡ classes_of c.args.labels.now = length-order c.args.labels.now c.args.order.now c.requires.order in
-    let below : get_or c.args.order.now c.loop-number.number 0 < length c.args.order.now = omega (arith, c.requires.order.only c.loop-number.number 0 (omega arith)) in
-    let many = length_of_classes c.in_ok-places.places.items (λ class. class.items) (places_of_class c.items.result.now c.args.labels.now) (length c.args.order.now) c.in_ok-places.ensures in
-    let class : c.as_slice-class.result.now ≡ places_of_class c.args.problem.now.items c.args.labels.now (get_or c.args.order.now c.loop-number.number 0) =
-    c.as_slice-class.ensures.value
-    ∙ list_of_class c.in_ok-places.places.items (λ class. class.items) (places_of_class c.items.result.now c.args.labels.now) (length c.args.order.now) (get_or c.args.order.now c.loop-number.number 0) c.index.result.now c.in_ok-places.ensures below (omega arith) c.index.ensures
-    ∙ ap (λ items. places_of_class items c.args.labels.now (get_or c.args.order.now c.loop-number.number 0)) c.items.ensures.items in
-    let of : All (IsItemOf c.args.problem.now.signals) c.args.problem.now.items = items_of_signals c.args.problem.now.signals c.args.problem.now.items c.items.ensures.sorted in
-    subst (λ places. All (λ p. p < length c.signals-signals.result.now) places) (sym class)
-    (subst (λ signals. All (λ p. p < length signals) (places_of_class c.args.problem.now.items c.args.labels.now (get_or c.args.order.now c.loop-number.number 0))) (sym c.signals-signals.ensures.signals)
-    (class_inside c.args.problem.now.signals c.args.problem.now.items c.args.labels.now (get_or c.args.order.now c.loop-number.number 0) of))
+    (class_numbers c.args.problem.now c.args.labels.now c.args.order.now c.in_ok-classes.classes.items (λ class. class.items) c.loop-number.number c.index.result.now c.as_slice-class.result.now c.items-items.ensures.problem c.requires.legal c.requires.order c.in_ok-classes.ensures (omega arith) c.index.ensures c.as_slice-class.ensures.value).inside
 
-pub add_frame-requires-clause-small : goal.add_frame-requires-clause-small
-add_frame-requires-clause-small c =
-    let long : length c.args.order.now ≡ classes_of c.args.labels.now = length-order c.args.labels.now c.args.order.now c.requires.order in
-    let below : get_or c.args.order.now c.loop-number.number 0 < length c.args.order.now = omega (arith, c.requires.order.only c.loop-number.number 0 (omega arith)) in
-    let many = length_of_classes c.in_ok-places.places.items (λ class. class.items) (places_of_class c.items.result.now c.args.labels.now) (length c.args.order.now) c.in_ok-places.ensures in
-    let class : c.as_slice-class.result.now ≡ places_of_class c.args.problem.now.items c.args.labels.now (get_or c.args.order.now c.loop-number.number 0) =
-    c.as_slice-class.ensures.value
-    ∙ list_of_class c.in_ok-places.places.items (λ class. class.items) (places_of_class c.items.result.now c.args.labels.now) (length c.args.order.now) (get_or c.args.order.now c.loop-number.number 0) c.index.result.now c.in_ok-places.ensures below (omega arith) c.index.ensures
-    ∙ ap (λ items. places_of_class items c.args.labels.now (get_or c.args.order.now c.loop-number.number 0)) c.items.ensures.items in
-    let of : All (IsItemOf c.args.problem.now.signals) c.args.problem.now.items = items_of_signals c.args.problem.now.signals c.args.problem.now.items c.items.ensures.sorted in
-    let bits : sum (widths_of (signals_at c.signals-signals.result.now c.as_slice-class.result.now)) ≡ bits_of_class (get_or c.args.order.now c.loop-number.number 0) c.args.labels.now c.args.problem.now.items =
-    ap (λ signals. sum (widths_of (signals_at signals c.as_slice-class.result.now))) c.signals-signals.ensures.signals
-    ∙ ap (λ places. sum (widths_of (signals_at c.args.problem.now.signals places))) class
-    ∙ widths_of_class c.args.problem.now.signals c.args.problem.now.items c.args.labels.now (get_or c.args.order.now c.loop-number.number 0) of in
-    omega (arith, bits, few_bits (bits_of_class (get_or c.args.order.now c.loop-number.number 0) c.args.labels.now c.args.problem.now.items) (c.requires.legal.classes (get_or c.args.order.now c.loop-number.number 0)).small)
+pub add_frame-requires-clause-class : goal.add_frame-requires-clause-class
+add_frame-requires-clause-class c =
+    (class_numbers c.args.problem.now c.args.labels.now c.args.order.now c.in_ok-classes.classes.items (λ class. class.items) c.loop-number.number c.index.result.now c.as_slice-class.result.now c.items-items.ensures.problem c.requires.legal c.requires.order c.in_ok-classes.ensures (omega arith) c.index.ensures c.as_slice-class.ensures.value).stands
 
 pub loop-number-preserved : goal.loop-number-preserved
 loop-number-preserved c =
-    let long : length c.args.order.now ≡ classes_of c.args.labels.now = length-order c.args.labels.now c.args.order.now c.requires.order in
-    let below : get_or c.args.order.now c.loop-number.number 0 < length c.args.order.now = omega (arith, c.requires.order.only c.loop-number.number 0 (omega arith)) in
-    let many = length_of_classes c.in_ok-places.places.items (λ class. class.items) (places_of_class c.items.result.now c.args.labels.now) (length c.args.order.now) c.in_ok-places.ensures in
-    let class : c.as_slice-class.result.now ≡ places_of_class c.args.problem.now.items c.args.labels.now (get_or c.args.order.now c.loop-number.number 0) =
-    c.as_slice-class.ensures.value
-    ∙ list_of_class c.in_ok-places.places.items (λ class. class.items) (places_of_class c.items.result.now c.args.labels.now) (length c.args.order.now) (get_or c.args.order.now c.loop-number.number 0) c.index.result.now c.in_ok-places.ensures below (omega arith) c.index.ensures
-    ∙ ap (λ items. places_of_class items c.args.labels.now (get_or c.args.order.now c.loop-number.number 0)) c.items.ensures.items in
+    let class = class_numbers c.args.problem.now c.args.labels.now c.args.order.now c.in_ok-classes.classes.items (λ class. class.items) c.loop-number.number c.index.result.now c.as_slice-class.result.now c.items-items.ensures.problem c.requires.legal c.requires.order c.in_ok-classes.ensures (omega arith) c.index.ensures c.as_slice-class.ensures.value in
+    let id = ap (λ (f : FrameFigures). f.id) c.in_ok-frame.ensures ∙ ap (λ (n : Network). n.first_id + c.loop-number.number) c.network-network.ensures.network in
     c.in_ok-add_frame.ensures
-    ∙ ap (λ rows. rows ++ rows_of_frame c.network-network.result.now (c.network-network.result.now.first_id + c.loop-number.number) (signals_at c.signals-signals.result.now c.as_slice-class.result.now)) c.loop-number.invariant
+    ∙ ap (λ rows. rows ++ rows_of_items c.args.problem.now.network c.in_ok-frame.frame.id c.args.problem.now.signals (items_at c.args.problem.now.items c.as_slice-class.result.now)) c.loop-number.invariant
     ∙ ap (λ rows. flat_map (rows_of_class c.args.problem.now c.args.labels.now) (take c.loop-number.number (enumerate_from 0 c.args.order.now)) ++ rows)
-    (ap (λ network. rows_of_frame network (network.first_id + c.loop-number.number) (signals_at c.signals-signals.result.now c.as_slice-class.result.now)) c.network-network.ensures.network
-    ∙ ap (λ signals. rows_of_frame c.args.problem.now.network (c.args.problem.now.network.first_id + c.loop-number.number) (signals_at signals c.as_slice-class.result.now)) c.signals-signals.ensures.signals
-    ∙ ap (λ places. rows_of_frame c.args.problem.now.network (c.args.problem.now.network.first_id + c.loop-number.number) (signals_at c.args.problem.now.signals places)) class
-    ∙ ap (rows_of_frame c.args.problem.now.network (c.args.problem.now.network.first_id + c.loop-number.number)) (signals_at-class c.args.problem.now c.args.labels.now (get_or c.args.order.now c.loop-number.number 0)))
+    (ap (λ n. rows_of_items c.args.problem.now.network n c.args.problem.now.signals (items_at c.args.problem.now.items c.as_slice-class.result.now)) id
+    ∙ ap (rows_of_items c.args.problem.now.network (c.args.problem.now.network.first_id + c.loop-number.number) c.args.problem.now.signals) class.is)
     ∙ sym (rows_more c.args.problem.now c.args.labels.now c.args.order.now c.loop-number.number (omega arith))
 
 -- the loop went over the whole order

@@ -1,0 +1,39 @@
+-- What a row meets is that it fits its frame.
+use Rattle.std.proofs.Common.{◌≡◌, ℕ, ◌+◌, ◌*◌, ◌≤◌, List, sym, ap, subst, ◌∙◌, Option, None, Some, refl}
+use Rattle.fd_length.specs.Size.{fd_size_of}
+use Rattle.pack_model.specs.Problem.{Parts}
+use Rattle.container_pdu.specs.Bytes.{header_bytes}
+use Rattle.container_pdu.specs.Class.{header_of_items, bytes_of_items}
+use Rattle.matrix_text.specs.declared.matrix.MatrixRow.{MatrixRow}
+use Rattle.matrix_text.specs.Items.{items_in_frame}
+use Rattle.matrix_text.specs.Placed.{part_bytes}
+use Rattle.matrix_text.specs.Tables.{RowFits, RowMeets, bytes_of_part, bytes_under, parts_before}
+
+module _ (problem : Parts) (rows : List MatrixRow) (row : MatrixRow) (bytes part before : ℕ)
+    (bytes_is : bytes ≡ bytes_of_items (items_in_frame problem rows row.id)) (part_is : part ≡ bytes_of_part problem.signals bytes row.pdu)
+    (before_is : before ≡ bytes_under row.header (parts_before problem rows row.id row.at problem.items)) (header : row.header ≡ header_of_items (items_in_frame problem rows row.id)) where
+  whole_part : part ≡ part_bytes problem rows row.id row.pdu
+  whole_part = part_is ∙ ap (λ n. bytes_of_part problem.signals n row.pdu) bytes_is ∙ by row.pdu
+    where
+      by : (o : Option ℕ) → bytes_of_part problem.signals (bytes_of_items (items_in_frame problem rows row.id)) o ≡ part_bytes problem rows row.id o
+      by None = refl
+      by (Some pdu) = refl
+
+  under : before ≡ bytes_under (header_of_items (items_in_frame problem rows row.id)) (parts_before problem rows row.id row.at problem.items)
+  under = before_is ∙ ap (λ h. bytes_under h (parts_before problem rows row.id row.at problem.items)) header
+
+  pub fits_from_meets : RowMeets problem.network row bytes part before → RowFits problem rows row
+  fits_from_meets meets = record {
+    header = header;
+    in_a_row = record { alone = meets.begins.alone; among = λ some. meets.begins.among some ∙ ap (λ n. header_bytes row.header + n) under };
+    frame = record { size = ap fd_size_of (sym bytes_is) ∙ meets.size; ticks = meets.ticks };
+    inside = record { from = meets.inside.from; below = subst (λ n. row.start + row.bits ≤ 8 * (row.at + n)) whole_part meets.inside.below };
+  }
+
+  pub meets_from_fits : RowFits problem rows row → RowMeets problem.network row bytes part before
+  meets_from_fits fits = record {
+    size = ap fd_size_of bytes_is ∙ fits.frame.size;
+    ticks = fits.frame.ticks;
+    inside = record { from = fits.inside.from; below = subst (λ n. row.start + row.bits ≤ 8 * (row.at + n)) (sym whole_part) fits.inside.below };
+    begins = record { alone = fits.in_a_row.alone; among = λ some. fits.in_a_row.among some ∙ ap (λ n. header_bytes row.header + n) (sym under) };
+  }
