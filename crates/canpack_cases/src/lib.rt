@@ -2,11 +2,15 @@
 #![tactic(auto)]
 
 #[cfg(test)]
+mod containers;
+#[cfg(test)]
 mod hostile;
 #[cfg(test)]
 mod matrices;
 #[cfg(test)]
 mod planned;
+#[cfg(test)]
+mod refusals;
 #[cfg(test)]
 mod runs;
 #[cfg(test)]

@@ -104,9 +104,17 @@ fn frames_of(alloc: Global, count: u32) -> Result<(Vec<u8>, Vec<u8>), AllocError
     Ok((signals, matrix))
 }
 
+/// Numbers of signals, with the status and what is said: 128 items are allowed, and 2048 signals.
+const COUNTS: [(u32, u8, &[u8]); 4] = [
+    (128, 0, b"placed\n"),
+    (129, 4, b"refused SIGNALS too many items\n"),
+    (2048, 4, b"refused SIGNALS too many items\n"),
+    (2049, 4, b"refused SIGNALS too many signals\n"),
+];
+
 #[test]
 fn as_many_frames_as_items(rt: HostRuntime) -> Result<(), Fail> {
-    for (count, status) in [(128, 0), (129, 4), (2048, 4), (2049, 4)] {
+    for (count, status, said) in COUNTS {
         let (signals, matrix) = frames_of(rt.alloc(), count)?;
         let mut texts = TWO_SIGNALS;
         texts[1] = &signals;
@@ -118,6 +126,7 @@ fn as_many_frames_as_items(rt: HostRuntime) -> Result<(), Fail> {
             status,
             "{count} signals"
         );
+        assert_eq!(rt; out.said(), said, "{count} signals");
     }
     Ok(())
 }

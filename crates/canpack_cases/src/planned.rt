@@ -17,6 +17,18 @@ const PLAN: [&str; 7] = [
 const PLANNED: &[u8] =
     b"id,sender,size,ticks,header,pdu,at,signal,start,bits\n256,ECU1,1,7000,none,,0,S1,0,8\n257,ECU1,1,7000,none,,0,S2,0,8\n";
 
+/// Two I-PDUs of 8 bits.
+const TWO_PDUS: &[u8] =
+    b"signal,sender,pdu,bits,period_us,deadline_us,jitter_us\nS1,ECU1,1,8,10000,10000,0\nS2,ECU1,2,8,10000,10000,0\n";
+
+/// The two I-PDUs, each alone in a frame of its own.
+const PLANNED_PDUS: &[u8] =
+    b"id,sender,size,ticks,header,pdu,at,signal,start,bits\n256,ECU1,1,7000,none,1,0,S1,0,8\n257,ECU1,1,7000,none,2,0,S2,0,8\n";
+
+/// A signal of more bits than a frame has.
+const TOO_WIDE: &[u8] =
+    b"signal,sender,pdu,bits,period_us,deadline_us,jitter_us\nS1,ECU1,,513,10000,10000,0\n";
+
 /// Words that are no line of `plan`.
 const WRONG: [&[&str]; 7] = [
     &[
@@ -98,6 +110,37 @@ fn wrong_words_write_nothing(rt: HostRuntime) -> Result<(), Fail> {
     Ok(())
 }
 
+/// SIGNALS, the status, MATRIX and CERT after it, and what is said.
+const WRITTEN: [(&[u8], u8, Option<&[u8]>, Option<&[u8]>, &[u8]); 2] = [
+    (TWO_PDUS, 0, Some(PLANNED_PDUS), Some(CERT), b"placed\n"),
+    (
+        TOO_WIDE,
+        4,
+        None,
+        None,
+        b"refused SIGNALS row 2 column bits\n",
+    ),
+];
+
+#[test]
+fn files_after_other_signals(rt: HostRuntime) -> Result<(), Fail> {
+    for (number, (signals, status, matrix, cert, said)) in WRITTEN.iter().enumerate() {
+        let mut folder = MemFolder::new(rt.alloc());
+        folder.put(NAMES[0], NETWORK)?;
+        folder.put(NAMES[1], signals)?;
+        let mut out = MemSink::new(rt.alloc());
+        assert_eq!(rt;
+            status_of(&rt, &PLAN, &mut folder, &mut out)?,
+            *status,
+            "signals {number}"
+        );
+        assert_eq!(rt; folder.get("matrix.csv"), *matrix, "signals {number}");
+        assert_eq!(rt; folder.get("cert.txt"), *cert, "signals {number}");
+        assert_eq!(rt; out.said(), *said, "signals {number}");
+    }
+    Ok(())
+}
+
 /// The call of the folder that fails, whether saying fails, the status, MATRIX and CERT after it, and what is said.
 /// The two texts take two calls each to read, and each file one to create and one to append to.
 const RUNS: [(u64, bool, u8, Option<&[u8]>, Option<&[u8]>, &[u8]); 8] = [
@@ -149,13 +192,14 @@ const PLANS: [(&[u8], u8, u8, &[u8]); 4] = [
         b"signal,sender,pdu,bits,period_us,deadline_us,jitter_us\n",
         4,
         4,
-        b"refused SIGNALS\nrefused SIGNALS\n",
+        b"refused SIGNALS no signals\nrefused SIGNALS no signals\n",
     ),
+    // An I-PDU of two signals, one of 512 bits, and a free signal.
     (
-        b"signal,sender,pdu,bits,period_us,deadline_us,jitter_us\nA,E2,7,9,10000,,\n",
-        4,
-        4,
-        b"refused SIGNALS\nrefused SIGNALS\n",
+        b"signal,sender,pdu,bits,period_us,deadline_us,jitter_us\nA,E2,7,9,10000,,\nB,E1,4294967295,512,10000,,\nC,E2,7,3,10000,,\nD,E1,,1,10000,,\n",
+        0,
+        0,
+        b"placed\nplaced\n",
     ),
 ];
 

@@ -5,7 +5,7 @@ use pack_base::{MemSink, NullSink, OpenGate, SteadyFolder};
 use std::test::Fail;
 
 /// The text of one file in the place of the accepted one, by its number from 0, with the status and what is said.
-const TEXTS: [(usize, &[u8], u8, &[u8]); 19] = [
+const TEXTS: [(usize, &[u8], u8, &[u8]); 13] = [
     (0, NETWORK, 0, b"placed\n"),
     // The second signal begins in the last bit of the first.
     (
@@ -46,44 +46,31 @@ const TEXTS: [(usize, &[u8], u8, &[u8]); 19] = [
         5,
         b"rejected matrix\n",
     ),
-    // Containers, I-PDUs and identifiers of the wrong range.
+    // A header that only one row of the frame has, an I-PDU that only the matrix has, and one that only SIGNALS has.
     (
         2,
         b"id,sender,size,ticks,header,pdu,at,signal,start,bits\n256,ECU1,2,7400,short,,0,S1,0,8\n256,ECU1,2,7400,none,,0,S2,8,8\n",
-        4,
-        b"refused MATRIX\n",
+        5,
+        b"rejected matrix\n",
     ),
     (
         2,
         b"id,sender,size,ticks,header,pdu,at,signal,start,bits\n256,ECU1,2,7400,none,1,0,S1,0,8\n256,ECU1,2,7400,none,,0,S2,8,8\n",
-        4,
-        b"refused MATRIX\n",
+        5,
+        b"rejected matrix\n",
     ),
-    (
-        2,
-        b"id,sender,size,ticks,header,pdu,at,signal,start,bits\n2048,ECU1,2,7400,none,,0,S1,0,8\n2048,ECU1,2,7400,none,,0,S2,8,8\n",
-        4,
-        b"refused MATRIX\n",
-    ),
-    (2, b"", 4, b"refused MATRIX\n"),
-    // A signal in an I-PDU, one named twice, and none.
     (
         1,
         b"signal,sender,pdu,bits,period_us,deadline_us,jitter_us\nS1,ECU1,1,8,10000,10000,0\nS2,ECU1,,8,10000,10000,0\n",
-        4,
-        b"refused SIGNALS\n",
+        5,
+        b"rejected matrix\n",
     ),
+    // A matrix without rows.
     (
-        1,
-        b"signal,sender,pdu,bits,period_us,deadline_us,jitter_us\nS1,ECU1,,8,10000,10000,0\nS1,ECU1,,8,10000,10000,0\n",
-        4,
-        b"refused SIGNALS\n",
-    ),
-    (
-        1,
-        b"signal,sender,pdu,bits,period_us,deadline_us,jitter_us\n",
-        4,
-        b"refused SIGNALS\n",
+        2,
+        b"id,sender,size,ticks,header,pdu,at,signal,start,bits\n",
+        5,
+        b"rejected matrix\n",
     ),
     // The deadline and the jitter as they are taken where they are empty.
     (
@@ -92,25 +79,13 @@ const TEXTS: [(usize, &[u8], u8, &[u8]); 19] = [
         0,
         b"placed\n",
     ),
+    // A byte order mark, and lines that end with CR and LF.
     (
-        3,
-        b"canpack certificate 1\nkind timed\nend\n",
-        4,
-        b"refused CERT\n",
+        1,
+        b"\xef\xbb\xbfsignal,sender,pdu,bits,period_us,deadline_us,jitter_us\r\nS1,ECU1,,8,10000,10000,0\r\nS2,ECU1,,8,10000,10000,0\r\n",
+        0,
+        b"placed\n",
     ),
-    (
-        3,
-        b"canpack certificate 1\nkind placed\nend",
-        4,
-        b"refused CERT\n",
-    ),
-    (
-        3,
-        b"canpack certificate 1\nkind placed\nend\n\n",
-        4,
-        b"refused CERT\n",
-    ),
-    (3, b"", 4, b"refused CERT\n"),
 ];
 
 #[test]

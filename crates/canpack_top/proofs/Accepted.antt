@@ -1,42 +1,23 @@
 -- What is planned and written is accepted.
-use Rattle.std.proofs.Common.{◌≡◌, ◌≢◌, ◌≤◌, ℕ, true, false, List, [], length, get_or, All, Option, None, Some, Ok, IsSome, refl, ap, subst, ◌∙◌}
-use Rattle.std.specs.Prelude.{◌&&◌, is_none, unwrap_or, Any, nat_lt}
+use Rattle.std.proofs.Common.{◌≡◌, ◌≢◌, ◌≤◌, ℕ, false, List, [], length, Option, Some, Ok, IsSome, refl, ap, ◌∙◌}
+use Rattle.std.specs.Prelude.{unwrap_or, nat_lt}
 use Rattle.std.proofs.lemmas.Bool.{le-ltb}
-use Rattle.std.proofs.lemmas.List.Sums.{list_all-from_AllPass}
 use Rattle.csv_table.specs.Columns.{◌>>=◌}
 use Rattle.pack_base.specs.Outside.{Files, file_at}
 use Rattle.pack_model.specs.Problem.{Parts}
-use Rattle.pack_model.specs.Signal.{IsFree}
-use Rattle.container_pdu.specs.declared.header.Header.TheVariants.{NoHeader}
 use Rattle.matrix_text.specs.declared.matrix.MatrixRow.{MatrixRow}
-use Rattle.matrix_text.specs.MatrixText.{MatrixText, matrix_text}
-use Rattle.matrix_text.specs.Placed.{Placed, RowOf}
-use Rattle.canpack_top.specs.declared.line.Role.TheVariants as role
+use Rattle.matrix_text.specs.MatrixText.{MatrixText}
+use Rattle.matrix_text.specs.Placed.{Placed}
+use Rattle.canpack_top.specs.declared.refusal.Role.TheVariants as role
 use Rattle.canpack_top.specs.Check.{Accepts, cert_at, matrix_at, network_at, problem_at, signals_at, size_limit, text_limit, texts_at}
 use Rattle.canpack_top.specs.Command.{Names}
-use Rattle.canpack_top.specs.Text.{are_plain, cert_in, has_mark, is_no_header, matrix_in, network_in, placed_cert, signals_in, within}
+use Rattle.canpack_top.specs.Text.{cert_in, matrix_in, network_in, placed_cert, signals_in, within}
 use Rattle.canpack_top.specs.Write.{Written}
 
--- the text of a matrix begins with its header, and no byte order mark
-no_mark : (rows : List MatrixRow) → has_mark (matrix_text rows) ≡ false
-no_mark rows = refl
-
--- the rows of a placed matrix have no headers and no I-PDUs
-plain_rows : (p : Parts) (rows : List MatrixRow) → All IsFree p.signals → Placed p rows → are_plain rows ≡ true
-plain_rows p rows free placed = list_all-from_AllPass _ rows (λ k d lt. plain_row (get_or rows k d) (placed.header_kind k d lt) (no_pdu (get_or rows k d) (placed.one_row.no_other k d lt)))
-  where
-    plain_row : (row : MatrixRow) → row.header ≡ NoHeader → row.pdu ≡ None → (is_no_header row.header && is_none row.pdu) ≡ true
-    plain_row row no_header no_pdu = rw (no_header, no_pdu) refl
-
-    no_pdu : (row : MatrixRow) → Any (λ signal. RowOf signal row) p.signals → row.pdu ≡ None
-    no_pdu row (k, signal, lt, place, of) = of.pdu ∙ subst IsFree place (free k signal lt)
-
 -- the matrix of a written text
-pub written_matrix : (p : Parts) (rows : List MatrixRow) (text : List ℕ) → All IsFree p.signals → Placed p rows → text ≡ matrix_text rows → MatrixText text rows → matrix_in text ≡ Ok rows
+pub written_matrix : (rows : List MatrixRow) (text : List ℕ) → MatrixText text rows → matrix_in text ≡ Ok rows
 unfolding matrix_in
-written_matrix p rows text free placed is reads =
-    let mark : has_mark text ≡ false = ap has_mark is ∙ no_mark rows in
-    rw (mark, reads, plain_rows p rows free placed) refl
+written_matrix rows text reads = rw reads refl
 
 -- a file that is as it was says what it said
 same_network : (before now : Files) (name : List ℕ) → file_at now name ≡ file_at before name → network_at now name ≡ network_at before name

@@ -1,8 +1,9 @@
 -- What an answer of the program says of the words, the files and the line that was said.
-use Rattle.std.specs.Prelude.{◌≡◌, ◌⊎◌, ⊤, ℕ, List, Option, Result, Ok, Err, IsErr, IsErrOf, IsNone, IsOk, IsSome, IsSomeAnd, String}
+use Rattle.std.specs.Prelude.{◌≡◌, ◌⊎◌, ⊤, ℕ, List, Option, Some, Result, Ok, Err, IsErrOf, IsNone, IsOk, IsSome, IsSomeAnd, String}
+use Rattle.std.specs.Result.{result_err}
 use Rattle.std.specs.declared.alloc.Global.{Global}
 use Rattle.pack_base.specs.Outside.{Files, SaidPart}
-use Rattle.canpack_top.specs.Check.{Accepts, HasOnePlace, Rejects, Refuses, problem_at, texts_at}
+use Rattle.canpack_top.specs.Check.{Accepts, HasOnePlace, Rejects, problem_at, texts_at}
 use Rattle.canpack_top.specs.Command.{Command, command_of, check, plan}
 use Rattle.canpack_top.specs.Line.{placed_line, refused_line, rejected_matrix_line, usage_line}
 use Rattle.canpack_top.specs.Plan.{IsPlanned, IsPartPlanned}
@@ -12,7 +13,7 @@ use Rattle.canpack_top.specs.declared.ending.Stop.{Stop}
 use Rattle.canpack_top.specs.declared.ending.Stop.TheVariants as stop
 use Rattle.canpack_top.specs.declared.ending.Verdict.{Verdict}
 use Rattle.canpack_top.specs.declared.ending.Verdict.TheVariants as verdict
-use Rattle.canpack_top.specs.declared.line.Role.{Role}
+use Rattle.canpack_top.specs.declared.refusal.Refusal.{Refusal}
 
 -- a fact of the command of the words, which are the line of one
 abbrev pub OfCommand : List (String Global) → (Command → Type 0) → Type 0
@@ -53,15 +54,18 @@ abbrev pub Rejected : Files → Command → Type 0
 Rejected files (check names) = Rejects names files
 Rejected files (plan names branches) = ⊥
 
--- the file in this part is the first that is refused
-abbrev pub Refused : Role → Files → Command → Type 0
-Refused part files (check names) = Refuses part names files
-Refused part files (plan names branches) = problem_at names files ≡ Err part
+-- the first refusal of the command's texts, if one is refused
+abbrev pub first_refusal : Files → Command → Option Refusal
+first_refusal files (check names) = result_err (texts_at names files)
+first_refusal files (plan names branches) = result_err (problem_at names files)
+
+-- this is the first refusal
+abbrev pub Refused : Refusal → Files → Command → Type 0
+Refused why files command = first_refusal files command ≡ Some why
 
 -- a text of the command's is refused
 abbrev pub IsRefused : Files → Command → Type 0
-IsRefused files (check names) = IsErr (texts_at names files)
-IsRefused files (plan names branches) = IsErr (problem_at names files)
+IsRefused files command = IsSome (first_refusal files command)
 
 -- the files after `placed`: `check` leaves them as they were, `plan` has written its two
 abbrev pub Done : Files → Files → Command → Type 0
@@ -78,7 +82,7 @@ pub data IsDue (before now : Files) (words : List (String Global)) : List ℕ �
   usage : IsNone (command_of words) → now ≡ before → IsDue before now words usage_line
   placed : (IsSome before → OfCommand words (Accepted before)) → (IsSome before → OfCommand words (Done before now)) → IsDue before now words placed_line
   rejected : (IsSome before → OfCommand words (Rejected before)) → now ≡ before → IsDue before now words rejected_matrix_line
-  refused : (part : Role) → (IsSome before → OfCommand words (Refused part before)) → now ≡ before → IsDue before now words (refused_line part)
+  refused : (why : Refusal) → (IsSome before → OfCommand words (Refused why before)) → now ≡ before → IsDue before now words (refused_line why)
 
 -- a front of the line that is due was said
 abbrev pub SaysPart : Files → Files → List (String Global) → Option (List ℕ) → Option (List ℕ) → Type 0
@@ -100,7 +104,7 @@ SaysNothing status = (status ≡ 2) ⊎ (status ≡ 3) ⊎ (status ≡ 6)
 abbrev pub IsAnswer : Result Verdict Stop → Files → Command → Type 0
 IsAnswer (Ok verdict.Placed) files command = Accepted files command
 IsAnswer (Ok verdict.RejectedMatrix) files command = Rejected files command
-IsAnswer (Err (stop.Refused part)) files command = Refused part files command
+IsAnswer (Err (stop.Refused why)) files command = Refused why files command
 IsAnswer (Err stop.ReadFault) files command = ⊤
 IsAnswer (Err stop.WriteFault) files command = ⊤
 IsAnswer (Err stop.Memory) files command = ⊤
@@ -108,7 +112,7 @@ IsAnswer (Err stop.Memory) files command = ⊤
 -- a text was refused
 abbrev pub IsRefusal : Result Verdict Stop → Type 0
 IsRefusal (Ok found) = ⊥
-IsRefusal (Err (stop.Refused part)) = ⊤
+IsRefusal (Err (stop.Refused why)) = ⊤
 IsRefusal (Err stop.ReadFault) = ⊥
 IsRefusal (Err stop.WriteFault) = ⊥
 IsRefusal (Err stop.Memory) = ⊥
@@ -121,7 +125,7 @@ IsStopped result = IsErrOf result stop.ReadFault ⊎ IsErrOf result stop.WriteFa
 abbrev pub Leaves : Result Verdict Stop → Files → Files → Command → Type 0
 Leaves (Ok verdict.Placed) before now command = IsSome before → Done before now command
 Leaves (Ok verdict.RejectedMatrix) before now command = now ≡ before
-Leaves (Err (stop.Refused part)) before now command = now ≡ before
+Leaves (Err (stop.Refused why)) before now command = now ≡ before
 Leaves (Err stop.ReadFault) before now command = now ≡ before
 Leaves (Err stop.WriteFault) before now command = IsSome before → PartDone before now command
 Leaves (Err stop.Memory) before now command = now ≡ before

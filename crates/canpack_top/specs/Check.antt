@@ -8,14 +8,14 @@ use Rattle.pack_model.specs.Problem.{Parts, problem_of}
 use Rattle.matrix_text.specs.declared.matrix.MatrixRow.{MatrixRow}
 use Rattle.matrix_text.specs.OnePlace.{OnePlace}
 use Rattle.matrix_text.specs.Placed.{Placed}
-use Rattle.canpack_top.specs.declared.line.Role.{Role}
-use Rattle.canpack_top.specs.declared.line.Role.TheVariants as role
+use Rattle.canpack_top.specs.declared.refusal.Role.TheVariants as role
+use Rattle.canpack_top.specs.declared.refusal.Refusal.{Refusal}
 use Rattle.canpack_top.specs.declared.ending.Stop.{Stop}
 use Rattle.canpack_top.specs.declared.ending.Stop.TheVariants as stop
 use Rattle.canpack_top.specs.declared.ending.Verdict.{Verdict}
 use Rattle.canpack_top.specs.declared.ending.Verdict.TheVariants as verdict
 use Rattle.canpack_top.specs.Command.{Names}
-use Rattle.canpack_top.specs.Text.{refused_as, within, network_in, signals_in, matrix_in, cert_in}
+use Rattle.canpack_top.specs.Text.{problem_refused, refused_as, within, network_in, signals_in, matrix_in, cert_in}
 
 -- NETWORK and SIGNALS have at most 16 MiB
 abbrev pub text_limit : ℕ
@@ -26,27 +26,27 @@ abbrev pub size_limit : ℕ
 size_limit = 2 ^ 63 - 1
 
 -- the network of a file
-unfoldable pub network_at : Files → List ℕ → Result Network Role
+unfoldable pub network_at : Files → List ℕ → Result Network Refusal
 network_at files name = within text_limit role.Network (bytes_at files name) >>= network_in
 
 -- the signals of a file
-unfoldable pub signals_at : Files → List ℕ → Result (List Signal) Role
+unfoldable pub signals_at : Files → List ℕ → Result (List Signal) Refusal
 signals_at files name = within text_limit role.Signals (bytes_at files name) >>= signals_in
 
 -- the matrix of a file
-unfoldable pub matrix_at : Files → List ℕ → Result (List MatrixRow) Role
+unfoldable pub matrix_at : Files → List ℕ → Result (List MatrixRow) Refusal
 matrix_at files name = within size_limit role.Matrix (bytes_at files name) >>= matrix_in
 
 -- that a file is the certificate of kind `placed`
-unfoldable pub cert_at : Files → List ℕ → Result (Unit {0}) Role
+unfoldable pub cert_at : Files → List ℕ → Result (Unit {0}) Refusal
 cert_at files name = within size_limit role.Cert (bytes_at files name) >>= cert_in
 
 -- the problem of a network and signals
-unfoldable pub problem_in : Network → List Signal → Result Parts Role
-problem_in network signals = refused_as role.Signals (problem_of network signals)
+unfoldable pub problem_in : Network → List Signal → Result Parts Refusal
+problem_in network signals = refused_as problem_refused (problem_of network signals)
 
 -- the problem of the two files that are named, or the first refusal
-unfoldable pub problem_at : Names → Files → Result Parts Role
+unfoldable pub problem_at : Names → Files → Result Parts Refusal
 problem_at names files = do
   network ← network_at files names.network
   signals ← signals_at files names.signals
@@ -58,7 +58,7 @@ pub record Judged : Type 0 where
   pub matrix : List MatrixRow
 
 -- what the four files that are named say, or the first refusal
-unfoldable pub texts_at : Names → Files → Result Judged Role
+unfoldable pub texts_at : Names → Files → Result Judged Refusal
 texts_at names files = do
   problem ← problem_at names files
   matrix ← matrix_at files names.matrix
@@ -77,15 +77,15 @@ HasOnePlace names files = IsOkAnd (texts_at names files) (λ judged. OnePlace ju
 abbrev pub Rejects : Names → Files → Type 0
 Rejects names files = IsOkAnd (texts_at names files) (λ judged. ¬ Placed judged.problem judged.matrix)
 
--- the file in this part is the first that is refused
-abbrev pub Refuses : Role → Names → Files → Type 0
-Refuses part names files = texts_at names files ≡ Err part
+-- this is the first refusal of the four files
+abbrev pub Refuses : Refusal → Names → Files → Type 0
+Refuses why names files = texts_at names files ≡ Err why
 
 -- what `check` answered is what the texts say, a read fault and want of memory aside
 abbrev pub IsVerdict : Result Verdict Stop → Names → Files → Type 0
 IsVerdict (Ok verdict.Placed) names files = Accepts names files
 IsVerdict (Ok verdict.RejectedMatrix) names files = Rejects names files
-IsVerdict (Err (stop.Refused part)) names files = Refuses part names files
+IsVerdict (Err (stop.Refused why)) names files = Refuses why names files
 IsVerdict (Err stop.ReadFault) names files = ⊤
 IsVerdict (Err stop.WriteFault) names files = ⊥
 IsVerdict (Err stop.Memory) names files = ⊤

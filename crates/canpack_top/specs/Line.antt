@@ -1,7 +1,11 @@
 -- The lines that the program says, each ended by LF: the project's own.
-use Rattle.std.specs.Prelude.{ℕ, List, [], ◌∷◌, ◌++◌, codes}
-use Rattle.canpack_top.specs.declared.line.Role.{Role}
-use Rattle.canpack_top.specs.declared.line.Role.TheVariants as role
+use Rattle.std.specs.Prelude.{ℕ, List, [], ◌∷◌, ◌++◌, codes, decimal, slice_index_or}
+use Rattle.input_text.specs.SignalsText.{signals_header}
+use Rattle.matrix_text.specs.MatrixText.{matrix_header}
+use Rattle.canpack_top.specs.declared.refusal.Role.{Role}
+use Rattle.canpack_top.specs.declared.refusal.Role.TheVariants as role
+use Rattle.canpack_top.specs.declared.refusal.Refusal.{Refusal}
+use Rattle.canpack_top.specs.declared.refusal.Refusal.TheVariants as refusal
 
 -- a text as a line
 abbrev pub line : List ℕ → List ℕ
@@ -13,14 +17,38 @@ role_name role.Signals = codes "SIGNALS"
 role_name role.Matrix = codes "MATRIX"
 role_name role.Cert = codes "CERT"
 
+-- the names of the columns from 0 on: the count of fields, and then the fields of the header
+abbrev pub columns_of : Role → List (List ℕ)
+columns_of role.Network = []
+columns_of role.Signals = codes "count" ∷ signals_header
+columns_of role.Matrix = codes "count" ∷ matrix_header
+columns_of role.Cert = []
+
+abbrev pub column_name : Role → ℕ → List ℕ
+column_name part column = slice_index_or (columns_of part) column []
+
 abbrev pub placed_line : List ℕ
 placed_line = line (codes "placed")
 
 abbrev pub rejected_matrix_line : List ℕ
 rejected_matrix_line = line (codes "rejected matrix")
 
-abbrev pub refused_line : Role → List ℕ
-refused_line role = line (codes "refused " ++ role_name role)
+-- which text is refused, and why
+abbrev pub refused_line : Refusal → List ℕ
+refused_line (refusal.TooLarge part) = codes "refused " ++ (role_name part ++ codes " too large\n")
+refused_line refusal.NotJson = codes "refused NETWORK not json\n"
+refused_line (refusal.BadMember member) = codes "refused NETWORK member " ++ (decimal member ++ codes "\n")
+refused_line (refusal.BadHeader part) = codes "refused " ++ (role_name part ++ codes " header\n")
+refused_line (refusal.BadRow part row column) =
+    codes "refused " ++ (role_name part ++ (codes " row " ++ (decimal row ++ (codes " column " ++ (column_name part column ++ codes "\n")))))
+refused_line refusal.TooManySignals = codes "refused SIGNALS too many signals\n"
+refused_line refusal.NoSignals = codes "refused SIGNALS no signals\n"
+refused_line (refusal.TwiceNamed row) = codes "refused SIGNALS row " ++ (decimal row ++ codes " named twice\n")
+refused_line (refusal.PduSenders row) = codes "refused SIGNALS row " ++ (decimal row ++ codes " pdu of another sender\n")
+refused_line (refusal.PduTooLarge id) = codes "refused SIGNALS pdu " ++ (decimal id ++ codes " too large\n")
+refused_line refusal.TooManyItems = codes "refused SIGNALS too many items\n"
+refused_line refusal.PeriodsMixed = codes "refused SIGNALS periods mixed\n"
+refused_line refusal.BadCert = codes "refused CERT\n"
 
 abbrev pub usage_line : List ℕ
 usage_line = line (codes "usage: plan NETWORK SIGNALS MATRIX CERT BRANCHES WORKERS | check NETWORK SIGNALS MATRIX CERT WORKERS | make NUMBER [NETWORK SIGNALS]")

@@ -1,74 +1,70 @@
--- The four texts of the first stage: no byte order mark, no I-PDUs, and certificates of kind `placed`.
-use Rattle.std.specs.Prelude.{◌&&◌, ℕ, Bool, true, false, List, [], ◌∷◌, ◌++◌, length, codes, is_none, nat_lt, nat_eq, Result, Ok, Err, if◌then◌else◌}
-use Rattle.std.specs.List.{list_all, starts_with}
+-- What the four texts say, or why one is refused. Of certificates only the one of kind `placed` is built.
+use Rattle.std.specs.Prelude.{ℕ, List, [], ◌∷◌, ◌++◌, length, codes, nat_lt, Result, Ok, Err, if◌then◌else◌}
 use Rattle.std.specs.Str.{bytes_eq}
-use Rattle.csv_table.specs.Columns.{◌>>=◌}
 use Rattle.pack_model.specs.declared.network.Network.{Network}
 use Rattle.pack_model.specs.declared.signal.Signal.{Signal}
-use Rattle.matrix_text.specs.MatrixText.{matrix_of_text}
-use Rattle.container_pdu.specs.declared.header.Header.{Header}
-use Rattle.container_pdu.specs.declared.header.Header.TheVariants as header
+use Rattle.pack_model.specs.declared.problem.ProblemFault.{ProblemFault}
+use Rattle.pack_model.specs.declared.problem.ProblemFault.TheVariants as fault
+use Rattle.matrix_text.specs.MatrixText.{MatrixRefusal, matrix_of_text}
+use Rattle.matrix_text.specs.MatrixText as matrix
 use Rattle.matrix_text.specs.declared.matrix.MatrixRow.{MatrixRow}
-use Rattle.input_text.specs.NetworkText.{network_of}
-use Rattle.input_text.specs.SignalsText.{signals_of}
-use Rattle.canpack_top.specs.declared.line.Role.{Role}
-use Rattle.canpack_top.specs.declared.line.Role.TheVariants as role
+use Rattle.input_text.specs.NetworkText.{NetworkRefusal, bad_member, network_of, not_json}
+use Rattle.input_text.specs.SignalsText.{SignalsRefusal, signals_of}
+use Rattle.input_text.specs.SignalsText as signals
+use Rattle.canpack_top.specs.declared.refusal.Role.{Role}
+use Rattle.canpack_top.specs.declared.refusal.Role.TheVariants as role
+use Rattle.canpack_top.specs.declared.refusal.Refusal.{Refusal}
+use Rattle.canpack_top.specs.declared.refusal.Refusal.TheVariants as refusal
 
--- what is read, or that the file in this part is refused
-abbrev pub refused_as : {X E : Type 0} → Role → Result X E → Result X Role
-refused_as part (Ok x) = Ok x
-refused_as part (Err e) = Err part
+-- what is read, or the refusal that its reader's stands for
+abbrev pub refused_as : {X E : Type 0} → (E → Refusal) → Result X E → Result X Refusal
+refused_as meant (Ok x) = Ok x
+refused_as meant (Err e) = Err (meant e)
+
+abbrev pub network_refused : NetworkRefusal → Refusal
+network_refused not_json = refusal.NotJson
+network_refused (bad_member member) = refusal.BadMember member
+
+abbrev pub signals_refused : SignalsRefusal → Refusal
+signals_refused signals.bad_header = refusal.BadHeader role.Signals
+signals_refused (signals.bad_row row column) = refusal.BadRow role.Signals row column
+signals_refused signals.too_many = refusal.TooManySignals
+
+abbrev pub matrix_refused : MatrixRefusal → Refusal
+matrix_refused matrix.bad_header = refusal.BadHeader role.Matrix
+matrix_refused (matrix.bad_row row column) = refusal.BadRow role.Matrix row column
+
+-- the problem of a network and signals is never want of memory, which the last case is
+abbrev pub problem_refused : ProblemFault → Refusal
+problem_refused fault.NoSignals = refusal.NoSignals
+problem_refused fault.TooManySignals = refusal.TooManySignals
+problem_refused (fault.TwiceNamed row) = refusal.TwiceNamed row
+problem_refused (fault.PduSenders row) = refusal.PduSenders row
+problem_refused (fault.PduTooLarge id) = refusal.PduTooLarge id
+problem_refused fault.TooManyItems = refusal.TooManyItems
+problem_refused fault.PeriodsMixed = refusal.PeriodsMixed
+problem_refused fault.Memory = refusal.NoSignals
 
 -- the text, where it has at most so many bytes
-abbrev pub within : ℕ → Role → List ℕ → Result (List ℕ) Role
-within limit part text = if nat_lt limit (length text) then Err part else Ok text
-
--- a text begins with a byte order mark
-abbrev pub has_mark : List ℕ → Bool
-has_mark text = starts_with nat_eq text (0xef ∷ 0xbb ∷ 0xbf ∷ [])
-
--- the text, where no byte order mark is at its front
-abbrev pub unmarked : Role → List ℕ → Result (List ℕ) Role
-unmarked part text = if has_mark text then Err part else Ok text
+abbrev pub within : ℕ → Role → List ℕ → Result (List ℕ) Refusal
+within limit part text = if nat_lt limit (length text) then Err (refusal.TooLarge part) else Ok text
 
 -- the network of a text
-unfoldable pub network_in : List ℕ → Result Network Role
-network_in text = unmarked role.Network text >>= λ text. refused_as role.Network (network_of text)
+unfoldable pub network_in : List ℕ → Result Network Refusal
+network_in text = refused_as network_refused (network_of text)
 
--- no signal is in an I-PDU
-abbrev pub are_free : List Signal → Bool
-are_free signals = list_all (λ signal. is_none signal.pdu) signals
+-- the signals of a text
+unfoldable pub signals_in : List ℕ → Result (List Signal) Refusal
+signals_in text = refused_as signals_refused (signals_of text)
 
--- the signals, where all are free
-abbrev pub free : List Signal → Result (List Signal) Role
-free signals = if are_free signals then Ok signals else Err role.Signals
-
--- the free signals of a text
-unfoldable pub signals_in : List ℕ → Result (List Signal) Role
-signals_in text = unmarked role.Signals text >>= λ text. refused_as role.Signals (signals_of text) >>= free
-
--- a row's frame has no headers
-abbrev pub is_no_header : Header → Bool
-is_no_header header.NoHeader = true
-is_no_header header.Short = false
-is_no_header header.Long = false
-
--- no row has a header or an I-PDU
-abbrev pub are_plain : List MatrixRow → Bool
-are_plain rows = list_all (λ row. is_no_header row.header && is_none row.pdu) rows
-
--- the rows, where none has a header or an I-PDU
-abbrev pub plain : List MatrixRow → Result (List MatrixRow) Role
-plain rows = if are_plain rows then Ok rows else Err role.Matrix
-
--- the rows of a text without headers and I-PDUs
-unfoldable pub matrix_in : List ℕ → Result (List MatrixRow) Role
-matrix_in text = unmarked role.Matrix text >>= λ text. refused_as role.Matrix (matrix_of_text text) >>= plain
+-- the rows of a text
+unfoldable pub matrix_in : List ℕ → Result (List MatrixRow) Refusal
+matrix_in text = refused_as matrix_refused (matrix_of_text text)
 
 -- the certificate of kind `placed`
 abbrev pub placed_cert : List ℕ
 placed_cert = codes "canpack certificate 1" ++ 10 ∷ codes "kind placed" ++ 10 ∷ codes "end" ++ 10 ∷ []
 
 -- that a text is the certificate of kind `placed`
-unfoldable pub cert_in : List ℕ → Result (Unit {0}) Role
-cert_in text = if bytes_eq text placed_cert then Ok tt else Err role.Cert
+unfoldable pub cert_in : List ℕ → Result (Unit {0}) Refusal
+cert_in text = if bytes_eq text placed_cert then Ok tt else Err refusal.BadCert

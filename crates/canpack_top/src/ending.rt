@@ -1,6 +1,6 @@
 //! How a command ends.
 
-use crate::line::Role;
+use crate::refusal::Refusal;
 use pack_model::Memory;
 
 /// What `check` finds of texts that stand.
@@ -19,8 +19,8 @@ pub enum Stop {
     ReadFault,
     /// A creation or an append failed, and the folder's count of write faults rose.
     WriteFault,
-    /// This file's text was refused.
-    Refused(Role),
+    /// A text was refused: this is the first refusal.
+    Refused(Refusal),
     /// Want of memory.
     Memory,
 }

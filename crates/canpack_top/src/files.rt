@@ -1,14 +1,14 @@
 //! The four files of a command: each is read whole, and its text read.
 ghost use Rattle.std.specs.Prelude.{◌≡◌, IfOk, IsSome, IsErrOf, All};
 ghost use Rattle.pack_model.specs.Network.{NetworkStands};
-ghost use Rattle.pack_model.specs.Signal.{IsFree, SignalStands};
+ghost use Rattle.pack_model.specs.Signal.{SignalStands};
 ghost use Rattle.canpack_top.specs.Check.{cert_at, matrix_at, network_at, signals_at};
 ghost use Rattle.canpack_top.specs.Ending.{Gives};
 ghost use Rattle.canpack_top.specs.Reads.{FaultAt, ReadsOnly};
 
 use crate::ending::Stop;
-use crate::line::Role;
 use crate::reading::read_file;
+use crate::refusal::Role;
 use crate::texts::{cert_in, matrix_in, network_in, signals_in};
 use matrix_text::Matrix;
 use pack_base::Folder;
@@ -35,12 +35,11 @@ pub fn network_at<F: Folder>(alloc: Global, folder: &mut F, name: &str) -> Resul
     network_in(alloc, &text)
 }
 
-/// The free signals of a file.
+/// The signals of a file.
 #[tactic(auto, unfolding(crate::specs::Check::signals_at))]
 pub fn signals_at<F: Folder>(alloc: Global, folder: &mut F, name: &str) -> Result<Vec<Signal>, Stop>
     ensures exact { IsSome (F.files folder.old) → Gives (λ signals. signals.items) result (signals_at (F.files folder.old) name.now) }
     ensures stand { IfOk result (λ signals. All SignalStands signals.items) }
-    ensures free { IfOk result (λ signals. All IsFree signals.items) }
     ensures read_fault { IsErrOf result Stop.ReadFault
         → FaultAt (F.read_faults folder.old) (F.read_faults folder.new) name.now }
     ensures reads { IsErrOf result Stop.WriteFault → ⊥ }

@@ -12,6 +12,7 @@ mod line;
 mod plan;
 mod problem;
 mod reading;
+mod refusal;
 mod run;
 mod steady;
 mod texts;

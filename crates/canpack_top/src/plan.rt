@@ -1,7 +1,7 @@
 //! The planning of a matrix in which each item has a frame of its own.
 ghost use Rattle.std.specs.Prelude.{◌≡◌, ◌⊎◌, IsTrue, Err, IsErrOf, IsErr, IsSome, IsOk, IfOk, OnOk, OnErr};
 ghost use Rattle.pack_base.specs.Outside.{Later};
-ghost use Rattle.canpack_top.specs.declared.line.Role.{Role as GivenRole};
+ghost use Rattle.canpack_top.specs.declared.refusal.Refusal.{Refusal as GivenRefusal};
 ghost use Rattle.matrix_text.specs.LaidOut.{rows_one_each};
 ghost use Rattle.matrix_text.specs.MatrixText.{MatrixText};
 ghost use Rattle.matrix_text.specs.Placed.{Placed};
@@ -39,8 +39,8 @@ pub fn plan<F: Folder>(alloc: Global, folder: &mut F, names: Names<'_>) -> Resul
 
     // The problem decides, a fault and want of memory aside.
     ensures planned { OnOk result (IsSome (F.files folder.old) → IsPlanned (names_of names.entry) (F.files folder.old) (F.files folder.new)) }
-    ensures refused { (part : GivenRole) → IsErrOf result (Stop.Refused part) → IsSome (F.files folder.old)
-        → problem_at (names_of names.entry) (F.files folder.old) ≡ Err part }
+    ensures refused { (why : GivenRefusal) → IsErrOf result (Stop.Refused why) → IsSome (F.files folder.old)
+        → problem_at (names_of names.entry) (F.files folder.old) ≡ Err why }
     ensures stands { IsErr result → IsSome (F.files folder.old) → IsOk (problem_at (names_of names.entry) (F.files folder.old))
         → IsErrOf result Stop.ReadFault ⊎ IsErrOf result Stop.WriteFault ⊎ IsErrOf result Stop.Memory }
 

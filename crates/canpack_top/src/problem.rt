@@ -1,7 +1,7 @@
 //! The problem of two files.
 ghost use Rattle.std.specs.Prelude.{◌≡◌, IfOk, IsSome, IsErrOf, All};
 ghost use Rattle.pack_model.specs.Network.{NetworkStands};
-ghost use Rattle.pack_model.specs.Signal.{IsFree, SignalStands};
+ghost use Rattle.pack_model.specs.Signal.{SignalStands};
 ghost use Rattle.canpack_top.specs.Check.{problem_at, problem_in};
 ghost use Rattle.canpack_top.specs.Command.{names_of};
 ghost use Rattle.canpack_top.specs.Ending.{Gives, Says};
@@ -10,7 +10,7 @@ ghost use Rattle.canpack_top.specs.Reads.{ProblemFaults, ReadsOnly};
 use crate::command::Names;
 use crate::ending::Stop;
 use crate::files::{network_at, signals_at};
-use crate::line::Role;
+use crate::refusal::Refusal;
 use pack_base::Folder;
 use pack_model::{Network, Problem, ProblemFault, Signal, problem_of};
 use std::alloc::Global;
@@ -19,14 +19,18 @@ use std::alloc::Global;
 fn problem_in(alloc: Global, network: Network, signals: Vec<Signal>) -> Result<Problem, Stop>
     requires network { NetworkStands network }
     requires signals { All SignalStands signals.items }
-    requires free { All IsFree signals.items }
-    ensures exact { Says (λ problem. problem) result (problem_in network signals.items) }
-    ensures free { IfOk result (λ problem. All IsFree problem.signals) }
+    ensures { Says (λ problem. problem) result (problem_in network signals.items) }
 {
     match problem_of(alloc, network, signals) {
         Ok(problem) => Ok(problem),
+        Err(ProblemFault::NoSignals) => Err(Stop::Refused(Refusal::NoSignals)),
+        Err(ProblemFault::TooManySignals) => Err(Stop::Refused(Refusal::TooManySignals)),
+        Err(ProblemFault::TwiceNamed(row)) => Err(Stop::Refused(Refusal::TwiceNamed(row))),
+        Err(ProblemFault::PduSenders(row)) => Err(Stop::Refused(Refusal::PduSenders(row))),
+        Err(ProblemFault::PduTooLarge(id)) => Err(Stop::Refused(Refusal::PduTooLarge(id))),
+        Err(ProblemFault::TooManyItems) => Err(Stop::Refused(Refusal::TooManyItems)),
+        Err(ProblemFault::PeriodsMixed) => Err(Stop::Refused(Refusal::PeriodsMixed)),
         Err(ProblemFault::Memory) => Err(Stop::Memory),
-        Err(_) => Err(Stop::Refused(Role::Signals)),
     }
 }
 
@@ -39,7 +43,6 @@ pub fn read_problem<F: Folder>(
 ) -> Result<Problem, Stop>
     ensures exact { IsSome (F.files folder.old)
         → Gives (λ problem. problem) result (problem_at (names_of names.entry) (F.files folder.old)) }
-    ensures free { IfOk result (λ problem. All IsFree problem.signals) }
     ensures read_fault { IsErrOf result Stop.ReadFault
         → ProblemFaults (names_of names.entry) (F.read_faults folder.old) (F.read_faults folder.new) }
     ensures reads { IsErrOf result Stop.WriteFault → ⊥ }

@@ -6,7 +6,7 @@ ghost use Rattle.canpack_top.specs.Reads.{FaultAt, ReadsOnly};
 ghost use Rattle.canpack_top.specs.Text.{within};
 
 use crate::ending::Stop;
-use crate::line::Role;
+use crate::refusal::{Refusal, Role};
 use pack_base::{Folder, ReadWhole, read_whole};
 use std::alloc::Global;
 
@@ -29,7 +29,7 @@ pub fn read_file<F: Folder>(
     match read_whole(alloc, folder, name, limit) {
         Ok(text) => Ok(text),
         Err(ReadWhole::ReadFault) => Err(Stop::ReadFault),
-        Err(ReadWhole::TooLarge) => Err(Stop::Refused(role)),
+        Err(ReadWhole::TooLarge) => Err(Stop::Refused(Refusal::TooLarge(role))),
         Err(ReadWhole::Memory) => Err(Stop::Memory),
     }
 }

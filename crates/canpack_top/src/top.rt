@@ -2,7 +2,7 @@
 ghost use Rattle.std.specs.Prelude.{◌≡◌, ◌≢◌, ◌⊎◌, ◌≤◌, IsSome, IsNone};
 ghost use Rattle.pack_base.specs.Counts.{Rose};
 ghost use Rattle.pack_base.specs.Outside.{Later, SaidPart, and_said};
-ghost use Rattle.canpack_top.specs.declared.line.Role.{Role};
+ghost use Rattle.canpack_top.specs.declared.refusal.Refusal.{Refusal as GivenRefusal};
 ghost use Rattle.canpack_top.specs.Answer.{
   Accepted,
   AcceptedAfter,
@@ -26,7 +26,8 @@ ghost use Rattle.canpack_top.specs.Line.{placed_line, refused_line, rejected_mat
 
 use crate::command::command_of;
 use crate::ending::{Stop, Verdict};
-use crate::line::{placed_line, rejected_matrix_line, usage_line};
+use crate::line::{placed_line, refused_line, rejected_matrix_line, usage_line};
+use crate::refusal::Refusal;
 use crate::run::run;
 use pack_base::{Folder, Gate, Sink};
 use std::alloc::Global;
@@ -44,6 +45,21 @@ fn say<O: Sink>(out: &mut O, line: &[u8], status: u8) -> u8
     match out.say(line) {
         Ok(()) => status,
         Err(_) => 7,
+    }
+}
+
+/// Says why a text was refused and answers 4, or 7 where saying failed, or 6 where the line found no memory.
+fn say_refused<O: Sink>(alloc: Global, out: &mut O, refusal: Refusal) -> u8
+    ensures said { result ≡ 4 → O.said out.new ≡ and_said (O.said out.old) (refused_line refusal) }
+    ensures other { (result ≡ 4) ⊎ (result ≡ 6) ⊎ (result ≡ 7) }
+    ensures memory { result ≡ 6 → O.said out.new ≡ O.said out.old }
+    ensures fault { result ≡ 7 → Rose (O.faults out.old) (O.faults out.new) }
+    ensures part { result ≡ 7 → SaidPart (refused_line refusal) (O.said out.old) (O.said out.new) }
+    ensures later { O.faults out.old ≤ O.faults out.new }
+{
+    match refused_line(alloc, refusal) {
+        Ok(line) => say(out, &line, 4),
+        Err(_) => 6,
     }
 }
 
@@ -69,8 +85,8 @@ pub fn canpack<R: Threads, F: Folder, O: Sink, G: Gate + Sync>(
     ensures accepted { result ≡ 0 → IsSome (F.files folder.old) → OfCommand words.now (Accepted (F.files folder.old)) }
     ensures one_place { result ≡ 0 → IsSome (F.files folder.old) → OfCommand words.now (OnePlaceEach (F.files folder.old)) }
     ensures rejected { result ≡ 5 → IsSome (F.files folder.old) → OfCommand words.now (Rejected (F.files folder.old)) }
-    ensures refused { result ≡ 4 → (part : Role) × (IsSome (F.files folder.old) → OfCommand words.now (Refused part (F.files folder.old)))
-        × (O.said out.new ≡ and_said (O.said out.old) (refused_line part)) }
+    ensures refused { result ≡ 4 → (why : GivenRefusal) × (IsSome (F.files folder.old) → OfCommand words.now (Refused why (F.files folder.old)))
+        × (O.said out.new ≡ and_said (O.said out.old) (refused_line why)) }
 
     // The files decide, a fault and want of memory aside.
     ensures accepts { IsSome (F.files folder.old) → OfCommand words.now (Accepted (F.files folder.old))
@@ -102,7 +118,7 @@ pub fn canpack<R: Threads, F: Folder, O: Sink, G: Gate + Sync>(
     match run(alloc, folder, command) {
         Ok(Verdict::Placed) => say(out, placed_line(), 0),
         Ok(Verdict::RejectedMatrix) => say(out, rejected_matrix_line(), 5),
-        Err(Stop::Refused(role)) => say(out, role.refused_line(), 4),
+        Err(Stop::Refused(refusal)) => say_refused(alloc, out, refusal),
         Err(Stop::ReadFault) => 2,
         Err(Stop::WriteFault) => 3,
         Err(Stop::Memory) => 6,

@@ -16,9 +16,9 @@ use std::alloc::Global;
 /// The figures of a frame that stand in each of its rows.
 #[derive(Clone, Copy)]
 pub struct Frame {
-    /// The frame's identifier.
+    /// The frame's identifier, 0 to 2047.
     pub id: u32,
-    /// The frame's data length in bytes.
+    /// The frame's data length in bytes, one of ISO 11898-1's list.
     pub size: u32,
     /// The frame's greatest length in ticks.
     pub ticks: u64,

@@ -16,8 +16,10 @@ use pack_model::{Memory, Problem};
 use std::alloc::{AllocError, Global};
 
 /// The matrix of a legal grouping: the class that `order` names at place `k` becomes the frame with
-/// identifier `first_id + k`, which has the least data length for its signals, one after another in
-/// list order. Rows are by identifier, and then by list place.
+/// identifier `first_id + k`, which has the least data length for its bytes. Free items, or one
+/// I-PDU, stand from byte 0 on; two or more I-PDUs follow each other by item, each after its header
+/// (AUTOSAR IpduM). The signals of a part stand one after another in list order. Rows are by
+/// identifier, then by item, and then by list place. The only error is want of memory.
 pub fn matrix_of(
     alloc: Global,
     problem: &Problem,
@@ -36,7 +38,7 @@ pub fn matrix_of(
 }
 
 /// The matrix of one frame for each item: the item of number `k` has the frame with identifier
-/// `first_id + k`.
+/// `first_id + k`. The only error is want of memory.
 pub fn one_frame_each(alloc: Global, problem: &Problem) -> Result<Matrix, Memory>
     ensures rows { IfOk result (λ matrix. matrix ≡ rows_one_each problem.now) }
     ensures placed { IfOk result (λ matrix. Placed problem.now matrix) }

@@ -23,8 +23,7 @@ returns-in-Ok-clause-accepted g c = λ told.
     let told_here : IsSome (g.F.Folder.files c.read_problem.new.folder) = rw c.read_problem.ensures.only.same told in
     let stands : problem_at names (g.F.Folder.files c.read_problem.new.folder) ≡ Ok c.in_ok-problem.problem = rw c.read_problem.ensures.only.same (c.in_ok-problem.ensures.exact told) in
     let reads : matrix_in c.in_ok-text.text.items ≡ Ok (rows_one_each c.in_ok-problem.problem) =
-    written_matrix c.in_ok-problem.problem (rows_one_each c.in_ok-problem.problem) c.in_ok-text.text.items
-    c.in_ok-problem.ensures.free c.in_ok-text.ensures.placed c.in_ok-text.ensures.text c.in_ok-text.ensures.reads in
+    written_matrix (rows_one_each c.in_ok-problem.problem) c.in_ok-text.text.items c.in_ok-text.ensures.reads in
     let network_matrix : names.network ≢ names.matrix = search rules in
     let network_cert : names.network ≢ names.cert = search rules in
     let signals_matrix : names.signals ≢ names.matrix = search rules in

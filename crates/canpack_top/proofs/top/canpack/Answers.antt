@@ -1,4 +1,4 @@
-use Rattle.std.proofs.Common.{arith}
+use Rattle.std.proofs.Common.{arith, refl}
 use Rattle.std.proofs.lemmas.Grind.{common_steps}
 use Rattle.canpack_top.specs.Answer.{usage, placed, rejected, refused}
 use Rattle.canpack_top.specs.Line.{placed_line, rejected_matrix_line, usage_line}
@@ -19,4 +19,4 @@ returns-in-Ok-RejectedMatrix-clause-part_said g c = λ failed.
 
 pub returns-in-Err-Refused-clause-part_said : goal.returns-in-Err-Refused-clause-part_said
 returns-in-Err-Refused-clause-part_said g c = λ failed.
-    says_part _ _ _ _ _ _ _ c.refused_line.ensures (refused _ (λ told. grind (arith, common_steps)) (grind (arith, common_steps))) (c.say-in-Err-Refused.ensures.part failed)
+    says_part _ _ _ _ _ _ _ refl (refused _ (λ told. grind (arith, common_steps)) (grind (arith, common_steps))) (c.say_refused.ensures.part failed)

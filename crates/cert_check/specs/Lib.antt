@@ -1,0 +1,4 @@
+pub mod Accept
+pub mod ClassFrames
+pub mod Merged
+pub mod Timing

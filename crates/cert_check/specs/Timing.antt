@@ -1,0 +1,53 @@
+-- What frame lines show of a grouping and an order of its classes.
+use Rattle.std.specs.Prelude.{◌≡◌, ◌<◌, ⊤, ℕ, List, length, slice_index_or, nat_eq, All, Result, Ok, Err}
+use Rattle.std.specs.List.{IsDistinct}
+use Rattle.pack_model.specs.Problem.{Parts}
+use Rattle.pack_model.specs.Grouping.{classes_of}
+use Rattle.busy_period.specs.declared.timed.Timed.{Timed}
+use Rattle.response_test.specs.Frame.{FramePasses, IsShown}
+use Rattle.cert_text.specs.declared.parts.FrameLine.{FrameLine}
+use Rattle.cert_check.specs.declared.verdict.Verdict.{Verdict}
+use Rattle.cert_check.specs.declared.verdict.Verdict.TheVariants as verdict
+use Rattle.cert_check.specs.declared.verdict.CheckFault.{CheckFault}
+use Rattle.cert_check.specs.declared.verdict.CheckFault.TheVariants as fault
+use Rattle.cert_check.specs.ClassFrames.{frames_of_classes, load_of}
+
+-- the order names as many different labels as there are classes
+pub record AreOrdered (labels order : List ℕ) : Type 0 where
+  pub each : length order ≡ classes_of labels
+  pub below : All (λ label. label < classes_of labels) order
+  pub distinct : IsDistinct nat_eq order
+
+-- there is one line for each place of the order, and each shows that its frame passes
+pub record AreShown (frames : List Timed) (order : List ℕ) (bit : ℕ) (lines : List FrameLine) : Type 0 where
+  pub count : length lines ≡ length order
+  pub each : (place : ℕ) (d : FrameLine) → place < length lines → IsShown frames order place bit (slice_index_or lines place d).busy (slice_index_or lines place d).queue
+
+-- the classes' frames are shown to pass
+abbrev pub ClassesShown : Parts → List ℕ → List ℕ → List FrameLine → Type 0
+ClassesShown problem labels order lines = AreShown (frames_of_classes problem labels) order problem.network.nominal_ticks lines
+
+-- each of the classes' frames passes
+abbrev pub ClassesPass : Parts → List ℕ → List ℕ → Type 0
+ClassesPass problem labels order = (place : ℕ) → place < length order → FramePasses (frames_of_classes problem labels) order place problem.network.nominal_ticks
+
+-- the answer is the verdict with the load where the lines show it, and else the fault of the timing
+abbrev pub IsTimed : Parts → List ℕ → List ℕ → List FrameLine → Result Verdict CheckFault → Type 0
+IsTimed problem labels order lines (Ok verdict.Placed) = ⊥
+IsTimed problem labels order lines (Ok (verdict.Timed load)) = ClassesShown problem labels order lines × (load ≡ load_of problem labels)
+IsTimed problem labels order lines (Ok (verdict.Between best lower)) = ⊥
+IsTimed problem labels order lines (Ok (verdict.Best load)) = ⊥
+IsTimed problem labels order lines (Ok verdict.NoSolution) = ⊥
+IsTimed problem labels order lines (Err fault.RejectedMatrix) = ⊥
+IsTimed problem labels order lines (Err fault.RejectedTiming) = ¬ ClassesShown problem labels order lines
+IsTimed problem labels order lines (Err fault.RejectedTree) = ⊥
+IsTimed problem labels order lines (Err fault.Memory) = ⊤
+
+-- where the answer is the verdict, each of the classes' frames passes
+abbrev pub PassIfTimed : Parts → List ℕ → List ℕ → Result Verdict CheckFault → Type 0
+PassIfTimed problem labels order (Ok (verdict.Timed load)) = ClassesPass problem labels order
+PassIfTimed problem labels order (Ok verdict.Placed) = ⊤
+PassIfTimed problem labels order (Ok (verdict.Between best lower)) = ⊤
+PassIfTimed problem labels order (Ok (verdict.Best load)) = ⊤
+PassIfTimed problem labels order (Ok verdict.NoSolution) = ⊤
+PassIfTimed problem labels order (Err _) = ⊤
