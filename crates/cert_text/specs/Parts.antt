@@ -1,5 +1,5 @@
 -- What a certificate says, and which parts each kind has.
-use Rattle.std.specs.Prelude.{◌≡◌, List, [], Option, None, IsSome}
+use Rattle.std.specs.Prelude.{◌≡◌, ⊤, List, [], Option, None, IsSome}
 use Rattle.cert_text.specs.declared.parts.Kind.{Kind}
 use Rattle.cert_text.specs.declared.parts.Kind.TheVariants.{KindPlaced, KindTimed, KindBetween, KindBest, KindNoSolution}
 use Rattle.cert_text.specs.declared.parts.FrameLine.{FrameLine}
@@ -20,3 +20,11 @@ HasParts KindTimed frames lemmas tree = (lemmas ≡ []) × (tree ≡ None)
 HasParts KindBetween frames lemmas tree = IsSome tree
 HasParts KindBest frames lemmas tree = IsSome tree
 HasParts KindNoSolution frames lemmas tree = IsSome tree
+
+-- the kind has a text so far: it is placed or timed
+abbrev pub HasText : Kind → Type 0
+HasText KindPlaced = ⊤
+HasText KindTimed = ⊤
+HasText KindBetween = ⊥
+HasText KindBest = ⊥
+HasText KindNoSolution = ⊥

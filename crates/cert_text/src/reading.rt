@@ -1,6 +1,8 @@
 //! Reading a certificate.
+ghost use Rattle.std.specs.Prelude.{IfOk};
 ghost use Rattle.csv_table.specs.Gives.{Gives};
 ghost use Rattle.cert_text.specs.CertText.{cert_of_text, cert_refusal};
+ghost use Rattle.cert_text.specs.Parts.{HasText};
 
 use crate::cut::cut_at;
 use crate::fault::CertFault;
@@ -14,6 +16,7 @@ use std::alloc::Global;
 pub fn read_cert(alloc: Global, bytes: &[u8]) -> Result<Cert, CertFault>
     // The certificate of the text, or its first refusal.
     ensures exact { Gives (λ c. c) cert_refusal result (cert_of_text bytes.now) }
+    ensures kind { IfOk result (λ cert. HasText cert.kind) }
 {
     let mut state = State::Nothing;
     let mut left = bytes;

@@ -1,9 +1,10 @@
 //! What lines say together.
-ghost use Rattle.std.specs.Prelude.{◌≡◌, IfOk};
+ghost use Rattle.std.specs.Prelude.{◌≡◌, IfOk, IfSome};
 ghost use Rattle.std.specs.Option.{option_map};
 ghost use Rattle.csv_table.specs.Gives.{Gives};
 ghost use Rattle.cert_text.specs.CertText.{after, at_end, cert_refusal};
-ghost use Rattle.cert_text.specs.Inside.{said_by};
+ghost use Rattle.cert_text.specs.Inside.{KindStands, said_by};
+ghost use Rattle.cert_text.specs.Parts.{HasText};
 
 use crate::fault::CertFault;
 use crate::line::Line;
@@ -29,7 +30,8 @@ pub(crate) enum State {
 impl State {
     /// What they say with one more line, None exactly where it can't stand there.
     pub(crate) fn after(self, alloc: Global, line: Line) -> Result<Option<State>, Memory>
-        ensures { IfOk result (λ next. option_map said_by next ≡ after (said_by self) line) }
+        ensures said { IfOk result (λ next. option_map said_by next ≡ after (said_by self) line) }
+        ensures kind { IfOk result (λ next. IfSome next KindStands) }
     {
         match (self, line) {
             (State::Nothing, Line::Head) => Ok(Some(State::Headed)),
@@ -53,7 +55,8 @@ impl State {
 
     /// The certificate, if it is whole and no bytes follow it in the line of this number.
     pub(crate) fn at_end(self, number: u64, bytes: &[u8]) -> Result<Cert, CertFault>
-        ensures { Gives (λ c. c) cert_refusal result (at_end number bytes.now (said_by self)) }
+        ensures exact { Gives (λ c. c) cert_refusal result (at_end number bytes.now (said_by self)) }
+        ensures kind { KindStands self → IfOk result (λ cert. HasText cert.kind) }
     {
         match self {
             State::Whole(cert) => {
