@@ -1,5 +1,5 @@
 -- Classes of labels by first use have items, and each of their signals stands.
-use Rattle.std.proofs.Common.{◌≡◌, ◌≢◌, ℕ, ◌+◌, ◌<◌, ◌≤◌, ◌⊎◌, inl, inr, zero, suc, Option, Some, None, Bool, true, false, cond, List, [], ◌∷◌, ◌++◌, length, get_or, take, map, filter, max, nat_eq, slice_get, All, ap, sym, ◌∙◌, refl, subst, arith, add-one, eq-eqb, length-append}
+use Rattle.std.proofs.Common.{◌≡◌, ℕ, ◌+◌, ◌<◌, ◌≤◌, ◌⊎◌, inl, inr, zero, suc, Option, Some, None, Bool, true, false, cond, List, [], ◌∷◌, length, get_or, take, map, filter, max, nat_eq, slice_get, All, ap, sym, ◌∙◌, refl, subst, arith, add-one, eq-eqb, length-append}
 use Rattle.std.specs.List.{zip, filter_map, flat_map, cons_option}
 use Rattle.std.proofs.lemmas.Bool.{cases_lt}
 use Rattle.std.proofs.lemmas.List.{take_more, take_all}
@@ -8,7 +8,7 @@ use Rattle.std.proofs.lemmas.List.Elements.{All-nil, All-cons, All-head, All-tai
 use Rattle.pack_model.specs.declared.item.Item.{Item}
 use Rattle.pack_model.specs.declared.signal.Signal.{Signal}
 use Rattle.pack_model.specs.Signal.{SignalStands}
-use Rattle.pack_model.specs.Problem.{Parts, IsProblem, IsSorted}
+use Rattle.pack_model.specs.Problem.{Parts, IsSorted}
 use Rattle.pack_model.specs.Grouping.{classes_of, class_of, IsGrouping}
 use Rattle.pack_model.specs.ClassTimes.{signals_of_class}
 use Rattle.pack_model.proofs.GroupingLaws.{classes_of-push, class_of-cons, All-class_of}

@@ -1,14 +1,13 @@
 -- Labels by first use of identifiers, and the order of the identifiers in use.
-use Rattle.std.proofs.Common.{◌≡◌, ◌≢◌, ℕ, ◌+◌, ◌<◌, ◌≤◌, ◌⊎◌, inl, inr, zero, suc, Bool, true, false, cond, ◌||◌, List, [], ◌∷◌, ◌++◌, length, get_or, take, drop, map, filter, max, nat_eq, All, ap, sym, ◌∙◌, refl, subst, arith, add-one, eq-eqb, true≢false, take-append-drop, append_assoc, length-append}
-use Rattle.std.specs.List.{list_any, position_or_len, range_with_len, IsDistinct}
+use Rattle.std.proofs.Common.{◌≡◌, ℕ, ◌+◌, ◌<◌, ◌≤◌, zero, suc, Bool, true, false, cond, ◌||◌, List, [], ◌∷◌, ◌++◌, length, get_or, take, drop, map, filter, max, nat_eq, All, ap, sym, ◌∙◌, refl, arith, add-one, eq-eqb, true≢false, take-append-drop, append_assoc, length-append}
+use Rattle.std.specs.List.{list_any, range_with_len, IsDistinct}
 use Rattle.std.proofs.lemmas.Cmp.{nat_eq_equiv}
 use Rattle.std.proofs.lemmas.Bool.{ne_eqb, eqb-true, false_from_ne_true}
-use Rattle.std.proofs.lemmas.List.{take_more, take_all, length-map, get_or-map, map_push}
+use Rattle.std.proofs.lemmas.List.{take_more, take_all, length-map, get_or-map}
 use Rattle.std.proofs.lemmas.List.Elements.{All-map, All-filter, filter_passes, recursion_from_All, All-from_recursion}
 use Rattle.std.proofs.lemmas.List.FromFn.{get_or-range_with_len, length-range_with_len}
 use Rattle.std.proofs.lemmas.List.Sums.{passes_at_first}
 use Rattle.std.proofs.lemmas.Map.Keys.{IsDistinct-head, IsDistinct-tail, IsDistinct-cons, IsDistinct-from_apart, apart_from_distinct}
-use Rattle.pack_model.specs.declared.item.Item.{Item}
 use Rattle.pack_model.specs.Problem.{Parts, distinct}
 use Rattle.pack_model.specs.Grouping.{classes_of, IsGrouping}
 use Rattle.pack_model.proofs.Distinct.{distinct-push, distinct-front, length-distinct}

@@ -5,3 +5,4 @@ pub mod ClassFacts
 pub mod Ranges
 pub mod LabelLaws
 pub mod Stages
+pub mod Lines

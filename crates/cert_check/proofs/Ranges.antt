@@ -1,5 +1,5 @@
 -- The times and the ticks of a class are in the ranges of a frame.
-use Rattle.std.proofs.Common.{◌≡◌, ℕ, ◌+◌, ◌*◌, ◌<◌, ◌≤◌, List, [], ◌∷◌, length, map, fold, min, max, All, find, unwrap_or, Bool, true, false, cond, nat_le, Option, None, Some, ap, sym, ◌∙◌, refl, arith}
+use Rattle.std.proofs.Common.{◌≡◌, ℕ, ◌+◌, ◌*◌, ◌<◌, ◌≤◌, List, [], ◌∷◌, length, map, fold, min, max, All, find, unwrap_or, Bool, true, false, cond, nat_le, Some, ap, ◌∙◌, refl, arith}
 use Rattle.std.proofs.Math.Nat.{mul-le-mul}
 use Rattle.std.specs.List.{list_all}
 use Rattle.std.proofs.lemmas.Bool.{and_parts, leb-true}
@@ -13,9 +13,8 @@ use Rattle.pack_model.specs.Signal.{SignalStands}
 use Rattle.pack_model.specs.Problem.{Parts, IsProblem, IsSorted}
 use Rattle.pack_model.specs.Grouping.{classes_of, class_of, IsGrouping}
 use Rattle.pack_model.specs.ClassTimes.{least, greatest, signals_of_class}
-use Rattle.fd_length.specs.Size.{fd_size_of, sizes}
+use Rattle.fd_length.specs.Size.{sizes}
 use Rattle.frame_ticks.specs.Worst.{worst_ticks_of, crc_bits_of}
-use Rattle.busy_period.specs.declared.timed.Timed.{Timed}
 use Rattle.busy_period.specs.Timed.{IsInRange}
 use Rattle.frame_ticks.proofs.WorstLaws.{worst_ticks_of-some}
 use Rattle.container_pdu.specs.Class.{bytes_of_items}

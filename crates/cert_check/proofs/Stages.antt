@@ -1,9 +1,8 @@
 -- The frames of a grouping and an order of its classes make a stage at each place.
-use Rattle.std.proofs.Common.{◌≡◌, ℕ, ◌<◌, ◌≤◌, List, length, All, ap, sym, ◌∙◌, subst, arith}
+use Rattle.std.proofs.Common.{◌≡◌, ℕ, ◌<◌, ◌≤◌, List, length, get_or, All, ap, sym, ◌∙◌, subst, arith}
 use Rattle.std.specs.List.{range_with_len}
 use Rattle.std.proofs.lemmas.List.Elements.{All-map}
 use Rattle.std.proofs.lemmas.List.FromFn.{length-map-range_with_len}
-use Rattle.pack_model.specs.declared.item.Item.{Item}
 use Rattle.pack_model.specs.Problem.{Parts, IsProblem}
 use Rattle.pack_model.specs.Grouping.{classes_of, IsGrouping}
 use Rattle.pack_model.proofs.Laws.{tests}
@@ -36,10 +35,10 @@ stage problem labels order frames stands grouping ordered is in_range place insi
   inside = inside;
 }
 
--- and the nominal bit is the time of a bit
-pub bit : (problem : Parts) (labels : List ℕ) (frames : List Timed) → IsProblem problem → frames ≡ frames_of_classes problem labels → IsBit frames problem.network.nominal_ticks
-bit problem labels frames stands is = record {
-  some = stands.network.nominal_low;
-  within = subst (All (λ (frame : Timed). problem.network.nominal_ticks ≤ frame.ticks)) (sym is)
-      (All-map (λ (frame : Timed). problem.network.nominal_ticks ≤ frame.ticks) (timed_of_class problem labels) (range_with_len 0 (classes_of labels)) (λ k d lt. bit_within problem labels _));
+-- and a time up to that of a nominal bit is one of a bit
+pub bit : (problem : Parts) (labels : List ℕ) (frames : List Timed) → frames ≡ frames_of_classes problem labels → (time : ℕ) → 1 ≤ time → time ≤ problem.network.nominal_ticks → IsBit frames time
+bit problem labels frames is time some most = record {
+  some = some;
+  within = subst (All (λ (frame : Timed). time ≤ frame.ticks)) (sym is)
+      (All-map (λ (frame : Timed). time ≤ frame.ticks) (timed_of_class problem labels) (range_with_len 0 (classes_of labels)) (λ k d lt. omega (arith, most, bit_within problem labels (get_or (range_with_len 0 (classes_of labels)) k d))));
 }

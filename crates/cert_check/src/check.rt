@@ -14,8 +14,8 @@ use std::alloc::Global;
 ///
 /// # Errors
 ///
-/// `RejectedMatrix` where the matrix is not placed; else, for the kind `timed`, `RejectedTiming` where the frame lines do
-/// not show that each frame passes in the order of ascending identifiers; `Memory` where memory runs out.
+/// `RejectedMatrix` where the matrix is not placed; else, for the kind `timed`, `RejectedTiming` where the frame lines
+/// do not show that each frame passes in the order of ascending identifiers; `Memory` where memory runs out.
 pub fn check_cert(
     alloc: Global,
     problem: &Problem,

@@ -64,8 +64,8 @@ fn parts_of_class(items: &[Item], labels: &[u32], label: u32) -> u32
 }
 
 /// The bytes of a class in one frame: of free items their bits together, rounded up; of I-PDUs the bytes of each, with
-/// headers where there are two or more. There is one label for each item, and there are at most 128, each of at most 512
-/// bits.
+/// headers where there are two or more. There is one label for each item, and there are at most 128, each of at most
+/// 512 bits.
 pub(crate) fn bytes_of_class(
     alloc: Global,
     items: &[Item],

@@ -60,7 +60,9 @@ pub(crate) fn times_of_class(
 ) -> Times
     requires each { length labels.now ≡ length items.now }
     requires members { All (λ item. All (λ place. place < length signals.now) item.members) items.now }
-    ensures { Merges (flat_map (λ item. filter_map (slice_get signals.now) item.members) (class_of label labels.now items.now)) result }
+    ensures { Merges
+        (flat_map (λ item. filter_map (slice_get signals.now) item.members) (class_of label labels.now items.now))
+        result }
 {
     let mut times = NONE;
     for (number, item) in items.iter().enumerate() {

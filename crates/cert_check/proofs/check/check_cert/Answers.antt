@@ -1,4 +1,4 @@
-use Rattle.std.proofs.Common.{◌≡◌, ◌≤◌, ◌<◌, ◌++◌, ℕ, List, All, length, take, ap, sym, ◌∙◌, subst, arith, nat_eq, length-take-le}
+use Rattle.std.proofs.Common.{◌≡◌, ◌<◌, ◌++◌, ℕ, List, All, length, take, ap, sym, ◌∙◌, subst, arith, nat_eq, length-take-le}
 use Rattle.std.specs.Prelude.{Result, Ok, Err}
 use Rattle.std.specs.List.{IsDistinct}
 use Rattle.std.proofs.lemmas.List.{take-append-le, take_all}
@@ -6,7 +6,6 @@ use Rattle.pack_model.specs.Problem.{Parts}
 use Rattle.pack_model.specs.Grouping.{classes_of, IsGrouping}
 use Rattle.matrix_text.specs.declared.matrix.MatrixRow.{MatrixRow}
 use Rattle.matrix_text.specs.Frames.{frames_of, grouping_of, order_of}
-use Rattle.cert_text.specs.declared.parts.FrameLine.{FrameLine}
 use Rattle.cert_check.specs.Timing.{AreOrdered, PassIfTimed}
 use Rattle.cert_check.specs.Accept.{PassWhereTimed}
 use Rattle.cert_check.specs.declared.verdict.Verdict.{Verdict}

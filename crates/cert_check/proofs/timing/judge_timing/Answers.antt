@@ -1,7 +1,7 @@
 use Rattle.std.proofs.Common.{All, ap, sym, ◌∙◌, subst, arith}
 use Rattle.pack_model.specs.declared.network.Network.{Network}
+use Rattle.pack_model.proofs.Laws.{tests}
 use Rattle.busy_period.specs.Timed.{IsInRange}
-use Rattle.response_test.specs.Queueing.{IsBit}
 use Rattle.cert_check.proofs.Stages.{few_classes, few_frames, stage, bit}
 use Rattle.cert_check.proofs.timing.judge_timing.Goals as goal
 
@@ -14,8 +14,14 @@ lines_show-requires-clause-stages c =
 
 pub lines_show-requires-clause-bit : goal.lines_show-requires-clause-bit
 lines_show-requires-clause-bit c =
-    subst (IsBit c.deref.result.now) (sym (c.from-bit.ensures ∙ ap (λ (network : Network). network.nominal_ticks) c.network.ensures.network))
-    (bit c.args.problem.now c.args.labels.now c.deref.result.now c.network.ensures.problem (c.deref.ensures.value ∙ c.in_ok-frames.ensures.value))
+    let network = c.network.ensures.network in
+    let stands = c.network.ensures.problem.network in
+    bit c.args.problem.now c.args.labels.now c.deref.result.now (c.deref.ensures.value ∙ c.in_ok-frames.ensures.value) c.from-bit.result
+    (omega (arith, c.from-bit.ensures, ap (λ (n : Network). n.nominal_ticks) network, ap (λ (n : Network). n.data_ticks) network, stands.nominal_low, stands.data_low))
+    (omega (arith, c.from-bit.ensures, ap (λ (n : Network). n.nominal_ticks) network, ap (λ (n : Network). n.data_ticks) network, stands.data_high))
+
+pub load_of_frames-load-requires-clause-hyper : goal.load_of_frames-load-requires-clause-hyper
+load_of_frames-load-requires-clause-hyper c = omega (arith, c.hyper.ensures.hyper, (tests c.args.problem.now c.hyper.ensures.problem).hyper_high)
 
 pub load_of_frames-load-requires-clause-few : goal.load_of_frames-load-requires-clause-few
 load_of_frames-load-requires-clause-few c =

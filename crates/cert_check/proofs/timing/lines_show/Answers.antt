@@ -1,7 +1,13 @@
-use Rattle.std.proofs.Common.{[], slice_index_or, arith}
+use Rattle.std.proofs.Common.{[], IsTrue, slice_index_or, arith, rules}
 use Rattle.cert_text.specs.declared.parts.FrameLine.{FrameLine}
 use Rattle.response_test.proofs.Verdicts.{passes_from_numbers}
+use Rattle.cert_check.proofs.Lines.{one_more}
 use Rattle.cert_check.proofs.timing.lines_show.Goals as goal
+
+pub loop-place-preserved : goal.loop-place-preserved
+loop-place-preserved c =
+    let yes : IsTrue c.shown.result = search rules in
+    one_more c.args.frames.now c.args.order.now c.args.bit c.args.lines.now c.loop-place.place c.index-lines-place.result c.as_slice.result.now c.loop-place.invariant (omega arith) c.index-lines-place.is c.as_slice.ensures (c.shown.ensures.value.0 yes)
 
 -- the answer is true at the last return alone, where each line shows its frame
 pub returns-clause-passes : goal.returns-clause-passes
