@@ -105,10 +105,9 @@ module _ (problem : Parts) (stands : IsProblem problem) (sorted : IsSorted probl
             (member_pdu j k d inside ∙ is) (member_pdu 0 0 e some_member ∙ is) in
             record { id = both.0; at = both.1 }
 
-    -- with the row that was found first
-    pub with_first : (first : MatrixRow) → first ≡ first_of rows row_of item first → RowsOf (λ row. AtOnePlace row first) rows row_of item.members → ItemTogether rows row_of item
-    with_first first is all e =
-        subst (λ r. RowsOf (λ row. AtOnePlace row r) rows row_of item.members) (is ∙ get_or_default rows (slice_index row_of (get_or item.members 0 0)) first e (has (get_or item.members 0 0) (member_within 0 0 some_member)).0) all
+    -- the members' rows are of the I-PDU of the first
+    pub pdu_of_members : (first : MatrixRow) → first ≡ first_of rows row_of item first → RowsOf (λ row. row.pdu ≡ first.pdu) rows row_of item.members
+    pdu_of_members first is j k inside d = member_pdu j k d inside ∙ sym (ap (λ (r : MatrixRow). r.pdu) is ∙ member_pdu 0 0 first some_member)
 
   -- two members of one item by its number
   same_item : (k l : ℕ) (d : MatrixRow) (a : MemberOf problem.items rows row_of k d) (b : MemberOf problem.items rows row_of l d) → a.number ≡ b.number → a.item ≡ b.item

@@ -13,6 +13,7 @@ use Rattle.container_pdu.specs.declared.header.Header.TheVariants.{NoHeader}
 use Rattle.container_pdu.specs.Bytes.{header_bytes}
 use Rattle.container_pdu.specs.Class.{header_of_items, bytes_of_item, ids_of}
 use Rattle.matrix_text.specs.declared.matrix.MatrixRow.{MatrixRow}
+use Rattle.matrix_text.specs.declared.fits.PartFigures.{PartFigures}
 use Rattle.matrix_text.specs.declared.tally.Tally.{Tally}
 use Rattle.matrix_text.specs.Items.{is_named, frame_of_item, at_of_item, items_in_frame}
 use Rattle.matrix_text.specs.Placed.{SameFrame, BeginApart, InARow, FrameFits, InsidePart, bytes_of_pdu}
@@ -132,6 +133,11 @@ pub record RowMeets (network : Network) (row : MatrixRow) (bytes part before : �
   pub ticks : row.ticks ≡ worst_ticks_of network row.size
   pub inside : InPart row part
   pub begins : BeginsAfter row before
+
+-- the row agrees with the figures of its part
+pub record MeetsFigures (network : Network) (row : MatrixRow) (figures : PartFigures) : Type 0 where
+  pub header : row.header ≡ figures.header
+  pub meets : RowMeets network row figures.frame figures.part figures.before
 
 -- the row has the header, the place, the size and the ticks that the items of its frame give, and its signal lies in its part
 pub record RowFits (problem : Parts) (rows : List MatrixRow) (row : MatrixRow) : Type 0 where

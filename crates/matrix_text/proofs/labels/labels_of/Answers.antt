@@ -25,6 +25,9 @@ returns-then-not-frames_agree-clause-not_placed c = λ _ given.
 pub parts_agree-requires-clause-frames : goal.parts_agree-requires-clause-frames
 parts_agree-requires-clause-frames c = c.frames_agree.ensures.0 c.if-not-frames_agree.false
 
+pub rows_fit-requires-clause-parts : goal.rows_fit-requires-clause-parts
+rows_fit-requires-clause-parts c = λ i j d before within. (c.parts_agree.ensures.0 c.if-not-parts_agree.false i j d before within).part
+
 pub are_apart-requires-clause-inside : goal.are_apart-requires-clause-inside
 are_apart-requires-clause-inside c =
     let together = c.parts_agree.ensures.0 c.if-not-parts_agree.false in
