@@ -4,8 +4,7 @@ use Rattle.std.proofs.lemmas.Bool.{cases_lt, cases_eq}
 use Rattle.std.proofs.lemmas.List.{get_or_default}
 use Rattle.matrix_text.specs.declared.matrix.MatrixRow.{MatrixRow}
 use Rattle.matrix_text.specs.Row.{RowInRange}
-use Rattle.matrix_text.specs.Placed.{SameFrame}
-use Rattle.matrix_text.specs.Tables.{no_row}
+use Rattle.matrix_text.specs.Tables.{no_row, SameFrameAndKind}
 
 -- none of the rows below a number has the identifier
 abbrev pub NoneBelow : List MatrixRow → ℕ → ℕ → Type 0
@@ -15,30 +14,33 @@ NoneBelow rows number id = (k : ℕ) (d : MatrixRow) → k < number → (get_or 
 pub record FirstBelow (rows : List MatrixRow) (number id first : ℕ) : Type 0 where
   pub below : first < number
   pub has : (d : MatrixRow) → (get_or rows first d).id ≡ id
-  pub agree : (d : MatrixRow) (k : ℕ) (e : MatrixRow) → k < number → (get_or rows k e).id ≡ id → SameFrame (get_or rows first d) (get_or rows k e)
+  pub agree : (d : MatrixRow) (k : ℕ) (e : MatrixRow) → k < number → (get_or rows k e).id ≡ id → SameFrameAndKind (get_or rows first d) (get_or rows k e)
 
 -- what the table says of an identifier
 abbrev pub HasFirst : List MatrixRow → ℕ → ℕ → ℕ → Type 0
 HasFirst rows number id first = ((first ≡ no_row) × NoneBelow rows number id) ⊎ FirstBelow rows number id first
 
--- the row of a number, whatever the default
-pub at_number : (rows : List MatrixRow) (number : ℕ) (row d : MatrixRow) → number < length rows → row ≡ get_or rows number row → get_or rows number d ≡ row
+-- the element of a number, whatever the default
+pub at_number : {X : Type 0} (rows : List X) (number : ℕ) (row d : X) → number < length rows → row ≡ get_or rows number row → get_or rows number d ≡ row
 at_number rows number row d lt at = get_or_default rows number d row lt ∙ sym at
 
-agrees : (row : MatrixRow) → SameFrame row row
-agrees row = record { sender = refl; size = refl; ticks = refl; header = refl }
+agrees : (row : MatrixRow) → SameFrameAndKind row row
+agrees row = record { frame = record { sender = refl; size = refl; ticks = refl; header = refl }; kind = refl }
 
-pub agrees_by : (a b c : MatrixRow) → SameFrame a b → SameFrame a c → SameFrame b c
+pub agrees_by : (a b c : MatrixRow) → SameFrameAndKind a b → SameFrameAndKind a c → SameFrameAndKind b c
 agrees_by a b c e f = record {
-  sender = sym e.sender ∙ f.sender;
-  size = sym e.size ∙ f.size;
-  ticks = sym e.ticks ∙ f.ticks;
-  header = sym e.header ∙ f.header;
+  frame = record {
+    sender = sym e.frame.sender ∙ f.frame.sender;
+    size = sym e.frame.size ∙ f.frame.size;
+    ticks = sym e.frame.ticks ∙ f.frame.ticks;
+    header = sym e.frame.header ∙ f.frame.header;
+  };
+  kind = sym e.kind ∙ f.kind;
 }
 
--- what holds of the rows below a number and of its row holds below the next
-pub below_row : (rows : List MatrixRow) (number : ℕ) (row : MatrixRow) (P : MatrixRow → Type 0) → number < length rows → row ≡ get_or rows number row
-    → ((k : ℕ) (d : MatrixRow) → k < number → P (get_or rows k d)) → P row → (k : ℕ) (d : MatrixRow) → k < number + 1 → P (get_or rows k d)
+-- what holds of the elements below a number and of its element holds below the next
+pub below_row : {X : Type 0} (rows : List X) (number : ℕ) (row : X) (P : X → Type 0) → number < length rows → row ≡ get_or rows number row
+    → ((k : ℕ) (d : X) → k < number → P (get_or rows k d)) → P row → (k : ℕ) (d : X) → k < number + 1 → P (get_or rows k d)
 below_row rows number row P lt at below here k d before = by (cases_lt k number)
   where
     by : (k < number) ⊎ (number ≤ k) → P (get_or rows k d)
@@ -54,7 +56,7 @@ module _ (rows : List MatrixRow) (number : ℕ) (row : MatrixRow) (lt : number <
   other_id id first differ (inr found) = inr (record {
     below = omega (arith, found.below);
     has = found.has;
-    agree = λ d. below_row rows number row (λ r. r.id ≡ id → SameFrame (get_or rows first d) r) lt at (found.agree d) (λ same. absurd (differ same));
+    agree = λ d. below_row rows number row (λ r. r.id ≡ id → SameFrameAndKind (get_or rows first d) r) lt at (found.agree d) (λ same. absurd (differ same));
   })
 
   -- a first row
@@ -62,8 +64,8 @@ module _ (rows : List MatrixRow) (number : ℕ) (row : MatrixRow) (lt : number <
   new_first none = inr (record {
     below = omega arith;
     has = λ d. ap (λ (r : MatrixRow). r.id) (at_number rows number row d lt at);
-    agree = λ d. below_row rows number row (λ r. r.id ≡ row.id → SameFrame (get_or rows number d) r) lt at (λ k e before same. absurd (none k e before same))
-        (λ _. subst (λ r. SameFrame r row) (sym (at_number rows number row d lt at)) (agrees row));
+    agree = λ d. below_row rows number row (λ r. r.id ≡ row.id → SameFrameAndKind (get_or rows number d) r) lt at (λ k e before same. absurd (none k e before same))
+        (λ _. subst (λ r. SameFrameAndKind r row) (sym (at_number rows number row d lt at)) (agrees row));
   })
 
   -- the table with a first row
@@ -80,7 +82,7 @@ module _ (rows : List MatrixRow) (number : ℕ) (row : MatrixRow) (lt : number <
       by (inr differ) _ = subst (λ f. HasFirst rows (number + 1) id f) (sym (get_or-set_other table row.id id number 0 differ)) (other_id id (get_or table id 0) (λ e. differ (sym e)) (so_far id below))
 
   -- the table stays where the row agrees with its first row
-  pub with_agreeing : (table : List ℕ) (first : MatrixRow) → row.id ≤ 2047 → (get_or table row.id 0 ≡ no_row → ⊥) → first ≡ get_or rows (get_or table row.id 0) first → SameFrame first row
+  pub with_agreeing : (table : List ℕ) (first : MatrixRow) → row.id ≤ 2047 → (get_or table row.id 0 ≡ no_row → ⊥) → first ≡ get_or rows (get_or table row.id 0) first → SameFrameAndKind first row
       → ((id : ℕ) → id < 2048 → HasFirst rows number id (get_or table id 0)) → (id : ℕ) → id < 2048 → HasFirst rows (number + 1) id (get_or table id 0)
   with_agreeing table first in_range there is agree so_far id below = by (cases_eq id row.id) (so_far id below)
     where
@@ -89,27 +91,27 @@ module _ (rows : List MatrixRow) (number : ℕ) (row : MatrixRow) (lt : number <
       by (inl same) (inr found) = inr (record {
         below = omega (arith, found.below);
         has = found.has;
-        agree = λ d. below_row rows number row (λ r. r.id ≡ id → SameFrame (get_or rows (get_or table id 0) d) r) lt at (found.agree d)
-            (λ _. subst (λ r. SameFrame r row) (is ∙ get_or_default rows (get_or table row.id 0) first d (omega (arith, found.below, ap (λ i. get_or table i 0) same)) ∙ ap (λ i. get_or rows (get_or table i 0) d) (sym same)) agree);
+        agree = λ d. below_row rows number row (λ r. r.id ≡ id → SameFrameAndKind (get_or rows (get_or table id 0) d) r) lt at (found.agree d)
+            (λ _. subst (λ r. SameFrameAndKind r row) (is ∙ get_or_default rows (get_or table row.id 0) first d (omega (arith, found.below, ap (λ i. get_or table i 0) same)) ∙ ap (λ i. get_or rows (get_or table i 0) d) (sym same)) agree);
       })
       by (inr differ) found = other_id id (get_or table id 0) (λ e. differ (sym e)) found
 
   -- a row that disagrees with the first row of its frame
-  pub disagrees : (table : List ℕ) (first : MatrixRow) → row.id ≤ 2047 → (get_or table row.id 0 ≡ no_row → ⊥) → first ≡ get_or rows (get_or table row.id 0) first → (SameFrame first row → ⊥)
-      → ((id : ℕ) → id < 2048 → HasFirst rows number id (get_or table id 0)) → AllPairs (λ r other. r.id ≡ other.id → SameFrame r other) rows → ⊥
+  pub disagrees : (table : List ℕ) (first : MatrixRow) → row.id ≤ 2047 → (get_or table row.id 0 ≡ no_row → ⊥) → first ≡ get_or rows (get_or table row.id 0) first → (SameFrameAndKind first row → ⊥)
+      → ((id : ℕ) → id < 2048 → HasFirst rows number id (get_or table id 0)) → AllPairs (λ r other. r.id ≡ other.id → SameFrameAndKind r other) rows → ⊥
   disagrees table first in_range there is differ so_far agree = by (so_far row.id (omega arith))
     where
       by : HasFirst rows number row.id (get_or table row.id 0) → ⊥
       by (inl none) = there none.0
-      by (inr found) = differ (subst (λ r. SameFrame r row) (sym is) (subst (λ r. SameFrame (get_or rows (get_or table row.id 0) first) r) (at_number rows number row first lt at)
+      by (inr found) = differ (subst (λ r. SameFrameAndKind r row) (sym is) (subst (λ r. SameFrameAndKind (get_or rows (get_or table row.id 0) first) r) (at_number rows number row first lt at)
           (agree (get_or table row.id 0) number first found.below lt (found.has first ∙ sym (ap (λ (r : MatrixRow). r.id) (at_number rows number row first lt at))))))
 
 -- at the end all rows of a frame agree
 pub all_agree : (rows : List MatrixRow) (number : ℕ) (table : List ℕ) → length rows ≤ number → ((k : ℕ) (d : MatrixRow) → k < length rows → (get_or rows k d).id ≤ 2047)
-    → ((id : ℕ) → id < 2048 → HasFirst rows number id (get_or table id 0)) → AllPairs (λ r other. r.id ≡ other.id → SameFrame r other) rows
+    → ((id : ℕ) → id < 2048 → HasFirst rows number id (get_or table id 0)) → AllPairs (λ r other. r.id ≡ other.id → SameFrameAndKind r other) rows
 all_agree rows number table all in_range found i j d before within same = by (found (get_or rows i d).id (let low : (get_or rows i d).id ≤ 2047 = in_range i d (omega arith) in omega (arith, low)))
   where
-    by : HasFirst rows number (get_or rows i d).id (get_or table (get_or rows i d).id 0) → SameFrame (get_or rows i d) (get_or rows j d)
+    by : HasFirst rows number (get_or rows i d).id (get_or table (get_or rows i d).id 0) → SameFrameAndKind (get_or rows i d) (get_or rows j d)
     by (inl none) = absurd (none.1 i d (omega arith) refl)
     by (inr first) = agrees_by _ _ _ (first.agree d i d (omega arith) refl) (first.agree d j d (omega arith) (sym same))
 

@@ -20,6 +20,7 @@ pub mod LaidRows
 pub mod LaidSeen
 pub mod LaidSteps
 pub mod LaidSums
+pub mod MemberRows
 pub mod Numbering
 pub mod OneEach
 pub mod OnePlaceLaws

@@ -38,7 +38,7 @@ one_kind rows all i j row other lt lt2 at at2 same = by (either rows SameKind al
     by (inr (inr kind)) = sym (kind (sym same))
 
 -- rows of one I-PDU are in one part
-one_part : (rows : List MatrixRow) → AllPairs SamePart rows → (i j id : ℕ) (row other : MatrixRow) → i < length rows → j < length rows → row ≡ get_or rows i row → other ≡ get_or rows j other → row.pdu ≡ Some id → other.pdu ≡ Some id
+pub one_part : (rows : List MatrixRow) → AllPairs SamePart rows → (i j id : ℕ) (row other : MatrixRow) → i < length rows → j < length rows → row ≡ get_or rows i row → other ≡ get_or rows j other → row.pdu ≡ Some id → other.pdu ≡ Some id
     → (row.id ≡ other.id) × (row.at ≡ other.at)
 one_part rows all i j id row other lt lt2 at at2 is is2 = by (either rows SamePart all i j row other lt lt2 at at2)
   where
@@ -76,7 +76,7 @@ module _ (problem : Parts) (stands : IsProblem problem) (sorted : IsSorted probl
       (at_first (is_named (name_at problem.signals p)) rows d (let low : position_or_len (is_named (name_at problem.signals p)) rows < length rows = omega (arith, (has p within).0, (has p within).1) in low))
 
   -- the row of a signal is the one in the table
-  row_is : (k p : ℕ) (s : Signal) (d : MatrixRow) → k < length rows → p < length problem.signals → get_or problem.signals p s ≡ s → RowOf s (get_or rows k d) → slice_index row_of p ≡ k
+  pub row_is : (k p : ℕ) (s : Signal) (d : MatrixRow) → k < length rows → p < length problem.signals → get_or problem.signals p s ≡ s → RowOf s (get_or rows k d) → slice_index row_of p ≡ k
   row_is k p s d lt within is of = by (cases_lt (slice_index row_of p) k) (cases_lt k (slice_index row_of p))
     where
       once : count_by (is_named (name_at problem.signals p)) rows ≡ 1
@@ -91,7 +91,7 @@ module _ (problem : Parts) (stands : IsProblem problem) (sorted : IsSorted probl
       by (inr le) (inr ge) = omega arith
 
   -- which says what the list says of it
-  row_says : (p : ℕ) (s : Signal) (d : MatrixRow) → p < length problem.signals → RowOf (get_or problem.signals p s) (get_or rows (slice_index row_of p) d)
+  pub row_says : (p : ℕ) (s : Signal) (d : MatrixRow) → p < length problem.signals → RowOf (get_or problem.signals p s) (get_or rows (slice_index row_of p) d)
   row_says p s d lt = let (q, t, within, is, of) = one.no_other (slice_index row_of p) d (has p lt).0 in by q t within is of (cases_eq q p)
     where
       row : MatrixRow

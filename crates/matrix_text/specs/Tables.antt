@@ -1,5 +1,5 @@
 -- Tables by identifier and by signal, which the checks of a matrix fill in one pass over its rows.
-use Rattle.std.specs.Prelude.{ℕ, Bool, true, ◌≡◌, ◌≢◌, ◌==◌, ◌+◌, ◌*◌, ◌^◌, ◌<◌, ◌≤◌, nat_eq, nat_lt, List, [], filter, not, Option, Some, None, is_some, IsSome, slice_index, slice_index_or, length, sum_by, if◌then◌else◌}
+use Rattle.std.specs.Prelude.{ℕ, Bool, true, ◌≡◌, ◌≢◌, ◌==◌, ◌+◌, ◌*◌, ◌^◌, ◌<◌, ◌≤◌, nat_eq, nat_lt, List, [], filter, not, Option, Some, None, is_some, IsSome, slice_index, slice_index_or, length, sum_by, All, if◌then◌else◌}
 use Rattle.std.specs.List.{list_all, list_any, position_or_len}
 use Rattle.pack_model.specs.declared.item.Item.{Item}
 use Rattle.pack_model.specs.declared.signal.Signal.{Signal}
@@ -13,9 +13,10 @@ use Rattle.container_pdu.specs.declared.header.Header.TheVariants.{NoHeader}
 use Rattle.container_pdu.specs.Bytes.{header_bytes}
 use Rattle.container_pdu.specs.Class.{header_of_items, bytes_of_item, ids_of}
 use Rattle.matrix_text.specs.declared.matrix.MatrixRow.{MatrixRow}
+use Rattle.matrix_text.specs.declared.fits.PartFigures.{PartFigures}
 use Rattle.matrix_text.specs.declared.tally.Tally.{Tally}
 use Rattle.matrix_text.specs.Items.{is_named, frame_of_item, at_of_item, items_in_frame}
-use Rattle.matrix_text.specs.Placed.{BeginApart, InARow, FrameFits, InsidePart, bytes_of_pdu}
+use Rattle.matrix_text.specs.Placed.{SameFrame, BeginApart, InARow, FrameFits, InsidePart, bytes_of_pdu}
 use Rattle.matrix_text.specs.Frames.{label_in}
 
 -- a row number that no matrix has, and a label that no frame has
@@ -54,6 +55,24 @@ pub record FirstFound (rows : List MatrixRow) (row_of : List ℕ) (item : Item) 
   pub low : slice_index item.members 0 < 2048
   pub within : slice_index row_of (slice_index item.members 0) < length rows
 
+-- the signals of these places have rows in the table
+abbrev pub AllFound : List MatrixRow → List ℕ → List ℕ → Type 0
+AllFound rows row_of places = All (λ place. (place < 2048) × (slice_index row_of place < length rows)) places
+
+-- it holds of the rows of the signals of these places
+abbrev pub RowsOf : (MatrixRow → Type 0) → List MatrixRow → List ℕ → List ℕ → Type 0
+RowsOf holds rows row_of places = All (λ place. (d : MatrixRow) → holds (slice_index_or rows (slice_index row_of place) d)) places
+
+-- the rows stand in one part of one frame
+pub record AtOnePlace (row other : MatrixRow) : Type 0 where
+  pub id : row.id ≡ other.id
+  pub at : row.at ≡ other.at
+
+-- the rows say the same of their frame, and are both of free signals or both of I-PDUs
+pub record SameFrameAndKind (row other : MatrixRow) : Type 0 where
+  pub frame : SameFrame row other
+  pub kind : is_some row.pdu ≡ is_some other.pdu
+
 -- rows of one frame are all of free signals or all of I-PDUs
 abbrev pub SameKind : MatrixRow → MatrixRow → Type 0
 SameKind row other = row.id ≡ other.id → is_some row.pdu ≡ is_some other.pdu
@@ -64,7 +83,6 @@ SamePart row other = IsSome row.pdu → row.pdu ≡ other.pdu → (row.id ≡ ot
 
 -- what two rows say of their parts can be so in one matrix
 pub record StandTogether (row other : MatrixRow) : Type 0 where
-  pub kind : SameKind row other
   pub part : SamePart row other
   pub apart : BeginApart row other
 
@@ -115,6 +133,11 @@ pub record RowMeets (network : Network) (row : MatrixRow) (bytes part before : �
   pub ticks : row.ticks ≡ worst_ticks_of network row.size
   pub inside : InPart row part
   pub begins : BeginsAfter row before
+
+-- the row agrees with the figures of its part
+pub record MeetsFigures (network : Network) (row : MatrixRow) (figures : PartFigures) : Type 0 where
+  pub header : row.header ≡ figures.header
+  pub meets : RowMeets network row figures.frame figures.part figures.before
 
 -- the row has the header, the place, the size and the ticks that the items of its frame give, and its signal lies in its part
 pub record RowFits (problem : Parts) (rows : List MatrixRow) (row : MatrixRow) : Type 0 where

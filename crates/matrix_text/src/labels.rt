@@ -33,7 +33,10 @@ pub fn labels_of(
 {
     let rows = matrix.rows();
     let row_of = find_rows(problem, rows)?;
-    if !frames_agree(rows) || !parts_agree(rows) || !rows_fit(problem, rows, &row_of) {
+    if !frames_agree(rows)
+        || !parts_agree(problem, rows, &row_of)
+        || !rows_fit(problem, rows, &row_of)
+    {
         return None;
     }
     let label_of = number_frames(problem, rows, &row_of, labels);

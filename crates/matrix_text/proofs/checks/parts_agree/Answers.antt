@@ -1,17 +1,15 @@
-use Rattle.std.proofs.Common.{arith, sym, ◌∙◌, refl}
+use Rattle.std.proofs.Common.{sym, ◌∙◌}
 use Rattle.std.proofs.lemmas.Bool.{false≢true}
-use Rattle.matrix_text.proofs.Together.{with_earlier, together_more}
 use Rattle.matrix_text.proofs.checks.parts_agree.Goals as goal
 
-pub returns-then-not-agrees_with_each : goal.returns-then-not-agrees_with_each
-returns-then-not-agrees_with_each c = (
-  λ t. absurd (false≢true t),
-  λ all. absurd (false≢true (sym c.if-not-agrees_with_each.true ∙ c.agrees_with_each.ensures.1 (with_earlier c.args.rows.now c.loop-number.number c.index-rows-number.result c.loop-number-test.true c.index-rows-number.is all))),
+pub returns-then-pdus_agree : goal.returns-then-pdus_agree
+returns-then-pdus_agree c = (
+  λ t i j d before within. record { part = c.pdus_agree.ensures.0 c.if-pdus_agree.true i j d before within; apart = c.parts_begin_apart.ensures.0 t i j d before within },
+  λ all. c.parts_begin_apart.ensures.1 (λ i j d before within. (all i j d before within).apart),
 )
 
-pub loop-number-preserved : goal.loop-number-preserved
-loop-number-preserved c =
-    together_more c.args.rows.now c.loop-number.number c.index-rows-number.result c.loop-number-test.true c.index-rows-number.is c.loop-number.invariant (c.agrees_with_each.ensures.0 c.if-not-agrees_with_each.false)
-
-pub returns : goal.returns
-returns c = (λ _ i j d before within. c.loop-number.invariant i j d before (omega (arith, within, c.loop-number-test.false)), λ _. refl)
+pub returns-else-pdus_agree : goal.returns-else-pdus_agree
+returns-else-pdus_agree c = (
+  λ t. absurd (false≢true (sym c.if-pdus_agree.false ∙ t)),
+  λ all. c.pdus_agree.ensures.1 (λ i j d before within. (all i j d before within).part),
+)

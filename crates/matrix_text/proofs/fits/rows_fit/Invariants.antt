@@ -1,8 +1,8 @@
 use Rattle.std.proofs.Common.{ℕ, ◌<◌, get_or}
-use Rattle.matrix_text.specs.declared.matrix.MatrixRow.{MatrixRow}
-use Rattle.matrix_text.specs.Tables.{RowFits}
+use Rattle.pack_model.specs.declared.item.Item.{Item}
+use Rattle.matrix_text.specs.Tables.{RowFits, RowsOf}
 use Rattle.matrix_text.proofs.fits.rows_fit.Given as goal
 
--- the rows so far fit
-abbrev pub invariant-loop-row : goal.invariant-loop-row
-invariant-loop-row l = (k : ℕ) (d : MatrixRow) → k < l.row-index → RowFits l.problem l.rows (get_or l.rows k d)
+-- the rows of the items so far fit
+abbrev pub invariant-loop-item : goal.invariant-loop-item
+invariant-loop-item l = (k : ℕ) (d : Item) → k < l.item-index → RowsOf (RowFits l.problem l.rows) l.rows l.row_of (get_or l.items k d).members

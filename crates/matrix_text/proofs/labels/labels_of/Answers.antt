@@ -14,20 +14,25 @@ pub returns-then-not-frames_agree-clause-not_placed : goal.returns-then-not-fram
 returns-then-not-frames_agree-clause-not_placed c = λ _ given.
     let placed : Placed c.args.problem.now c.rows-rows.result.now = subst (Placed c.args.problem.now) (sym c.rows-rows.ensures.rows) given in
     elim c.then-not-frames_agree.branch [
-      | then-not-frames_agree-via-then-not-frames_agree w ↦ false≢true (sym w.if-not-frames_agree.true ∙ c.frames_agree.ensures.1 placed.frames_agree)
+      | then-not-frames_agree-via-then-not-frames_agree w ↦ false≢true (sym w.if-not-frames_agree.true ∙ c.frames_agree.ensures.1 (λ i j d before within same. record { frame = placed.frames_agree i j d before within same; kind = (placed.one_kind i j d before within).kind same }))
       | then-not-frames_agree-via-else-not-frames_agree+then-not-parts_agree w ↦ false≢true (sym w.if-not-parts_agree.true ∙ w.parts_agree.ensures.1 (λ i j d before within. record {
-        kind = (placed.one_kind i j d before within).kind;
         part = (placed.one_kind i j d before within).part;
         apart = placed.parts_begin_apart i j d before within;
       }))
       | then-not-frames_agree-via-else-not-frames_agree+else-not-parts_agree+then-not-rows_fit w ↦ false≢true (sym w.if-not-rows_fit.true ∙ w.rows_fit.ensures.1 (rows_fit c.args.problem.now c.rows-rows.result.now placed))
     ]
 
+pub parts_agree-requires-clause-frames : goal.parts_agree-requires-clause-frames
+parts_agree-requires-clause-frames c = c.frames_agree.ensures.0 c.if-not-frames_agree.false
+
+pub rows_fit-requires-clause-parts : goal.rows_fit-requires-clause-parts
+rows_fit-requires-clause-parts c = λ i j d before within. (c.parts_agree.ensures.0 c.if-not-parts_agree.false i j d before within).part
+
 pub are_apart-requires-clause-inside : goal.are_apart-requires-clause-inside
 are_apart-requires-clause-inside c =
     let together = c.parts_agree.ensures.0 c.if-not-parts_agree.false in
     within_frame c.args.problem.now c.number_frames-label_of.ensures.problem.0 c.number_frames-label_of.ensures.problem.1 c.rows-rows.result.now c.in_ok-row_of.ensures.0 c.in_ok-row_of.row_of c.in_ok-row_of.ensures.1
-    (λ i j d before within. (together i j d before within).kind) (λ i j d before within. (together i j d before within).part) (c.rows_fit.ensures.0 c.if-not-rows_fit.false)
+    (λ i j d before within same. (c.frames_agree.ensures.0 c.if-not-frames_agree.false i j d before within same).kind) (λ i j d before within. (together i j d before within).part) (c.rows_fit.ensures.0 c.if-not-rows_fit.false)
 
 pub are_apart-requires-clause-labels : goal.are_apart-requires-clause-labels
 are_apart-requires-clause-labels c =
@@ -58,8 +63,8 @@ placed_rows c =
     let fits = c.rows_fit.ensures.0 c.if-not-rows_fit.false in
     record {
       one_row = c.in_ok-row_of.ensures.0;
-      frames_agree = c.frames_agree.ensures.0 c.if-not-frames_agree.false;
-      one_kind = λ i j d before within. record { kind = (together i j d before within).kind; part = (together i j d before within).part };
+      frames_agree = λ i j d before within same. (c.frames_agree.ensures.0 c.if-not-frames_agree.false i j d before within same).frame;
+      one_kind = λ i j d before within. record { kind = λ same. (c.frames_agree.ensures.0 c.if-not-frames_agree.false i j d before within same).kind; part = (together i j d before within).part };
       header_kind = λ k d lt. (fits k d lt).header;
       parts_in_a_row = λ k d lt. (fits k d lt).in_a_row;
       parts_begin_apart = λ i j d before within. (together i j d before within).apart;
@@ -76,7 +81,7 @@ returns-clause-one_place c =
     let together = c.parts_agree.ensures.0 c.if-not-parts_agree.false in
     subst (OnePlace c.args.problem.now) c.rows-rows.ensures.rows
     (OnePlace-from_Placed c.args.problem.now c.number_frames-label_of.ensures.problem.0 c.number_frames-label_of.ensures.problem.1 c.rows-rows.result.now c.in_ok-row_of.ensures.0 c.in_ok-row_of.row_of c.in_ok-row_of.ensures.1
-    (λ i j d before within. (together i j d before within).kind) (λ i j d before within. (together i j d before within).part) (c.rows_fit.ensures.0 c.if-not-rows_fit.false) (placed_rows c))
+    (λ i j d before within same. (c.frames_agree.ensures.0 c.if-not-frames_agree.false i j d before within same).kind) (λ i j d before within. (together i j d before within).part) (c.rows_fit.ensures.0 c.if-not-rows_fit.false) (placed_rows c))
 
 pub returns-clause-frames : goal.returns-clause-frames
 returns-clause-frames c =
