@@ -3,3 +3,4 @@ pub mod Fronts
 pub mod Planned
 pub mod ReadTwice
 pub mod Accepted
+pub mod Judged
