@@ -3,4 +3,3 @@ pub mod Fronts
 pub mod Planned
 pub mod ReadTwice
 pub mod Accepted
-pub mod Judged

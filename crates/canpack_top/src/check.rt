@@ -1,6 +1,6 @@
 //! The checking of a certificate.
 ghost use Rattle.std.specs.Prelude.{IfOk, IsErrOf, IsSome};
-ghost use Rattle.cert_check.specs.Accept.{IsJudged};
+ghost use Rattle.cert_text.specs.Parts.{HasText};
 ghost use Rattle.matrix_text.specs.OnePlace.{OnePlace};
 ghost use Rattle.canpack_top.specs.Answer.{DoneLineHas, IsDone};
 ghost use Rattle.canpack_top.specs.Check.{
@@ -30,13 +30,8 @@ use std::alloc::Global;
 
 /// Judges a certificate of the kind `placed` or `timed`: what it shows of a problem's matrix, or the first part of the
 /// acceptance rule that doesn't hold.
-fn judge(
-    alloc: Global,
-    problem: &Problem,
-    matrix: &Matrix,
-    cert: &Cert,
-) -> Result<Verdict, Memory>
-    requires { IsJudged cert.now.kind }
+fn judge(alloc: Global, problem: &Problem, matrix: &Matrix, cert: &Cert) -> Result<Verdict, Memory>
+    requires { HasText cert.now.kind }
     ensures found { IfOk result (λ found. IsFoundOf found (record { problem = problem.now; matrix = matrix.now; cert = cert.now })) }
     ensures line { IfOk result (λ found. IsAcceptance found
         → IsLineOf (verdict_line found) (record { problem = problem.now; matrix = matrix.now; cert = cert.now })) }

@@ -2,7 +2,7 @@
 ghost use Rattle.std.specs.Prelude.{◌≡◌, IfOk, IsSome, IsErrOf, All};
 ghost use Rattle.pack_model.specs.Network.{NetworkStands};
 ghost use Rattle.pack_model.specs.Signal.{SignalStands};
-ghost use Rattle.cert_check.specs.Accept.{IsJudged};
+ghost use Rattle.cert_text.specs.Parts.{HasText};
 ghost use Rattle.canpack_top.specs.Check.{cert_at, matrix_at, network_at, signals_at};
 ghost use Rattle.canpack_top.specs.Ending.{Gives};
 ghost use Rattle.canpack_top.specs.Reads.{FaultAt, ReadsOnly};
@@ -68,7 +68,7 @@ pub fn matrix_at<F: Folder>(alloc: Global, folder: &mut F, name: &str) -> Result
 #[tactic(auto, unfolding(crate::specs::Check::cert_at))]
 pub fn cert_at<F: Folder>(alloc: Global, folder: &mut F, name: &str) -> Result<Cert, Stop>
     ensures exact { IsSome (F.files folder.old) → Gives (λ cert. cert) result (cert_at (F.files folder.old) name.now) }
-    ensures judged { IfOk result (λ cert. IsJudged cert.kind) }
+    ensures kind { IfOk result (λ cert. HasText cert.kind) }
     ensures read_fault { IsErrOf result Stop.ReadFault
         → FaultAt (F.read_faults folder.old) (F.read_faults folder.new) name.now }
     ensures reads { IsErrOf result Stop.WriteFault → ⊥ }

@@ -69,9 +69,7 @@ fn refused_text(alloc: Global, refusal: Refusal) -> Result<String, AllocError>
     ensures { IfOk result (λ text. string_bytes text ≡ refused_line refusal) }
 {
     match refusal {
-        Refusal::TooLarge(role) => {
-            format!(in alloc; "refused {} too large\n", role_name(role))
-        }
+        Refusal::TooLarge(role) => { format!(in alloc; "refused {} too large\n", role_name(role)) }
         Refusal::NotJson => format!(in alloc; "refused NETWORK not json\n"),
         Refusal::BadMember(member) => format!(in alloc; "refused NETWORK member {member}\n"),
         Refusal::BadHeader(role) => format!(in alloc; "refused {} header\n", role_name(role)),

@@ -2,7 +2,7 @@
 ghost use Rattle.std.specs.Prelude.{◌≡◌, IfOk, All};
 ghost use Rattle.pack_model.specs.Network.{NetworkStands};
 ghost use Rattle.pack_model.specs.Signal.{SignalStands};
-ghost use Rattle.cert_check.specs.Accept.{IsJudged};
+ghost use Rattle.cert_text.specs.Parts.{HasText};
 ghost use Rattle.canpack_top.specs.Ending.{Says};
 ghost use Rattle.canpack_top.specs.Text.{cert_in, matrix_in, network_in, signals_in};
 
@@ -71,7 +71,7 @@ pub fn matrix_in(alloc: Global, text: &[u8]) -> Result<Matrix, Stop>
 #[tactic(auto, unfolding(crate::specs::Text::cert_in))]
 pub fn cert_in(alloc: Global, text: &[u8]) -> Result<Cert, Stop>
     ensures exact { Says (λ cert. cert) result (cert_in text.now) }
-    ensures judged { IfOk result (λ cert. IsJudged cert.kind) }
+    ensures kind { IfOk result (λ cert. HasText cert.kind) }
 {
     match read_cert(alloc, text) {
         Ok(cert) => Ok(cert),

@@ -3,13 +3,25 @@ use Rattle.pack_model.specs.Problem.{Parts}
 use Rattle.matrix_text.specs.declared.matrix.MatrixRow.{MatrixRow}
 use Rattle.matrix_text.specs.Frames.{grouping_of}
 use Rattle.cert_text.specs.declared.parts.Kind.{Kind}
-use Rattle.cert_text.specs.declared.parts.Kind.TheVariants.{KindTimed}
-use Rattle.cert_check.specs.Accept.{AllPass, IsFound}
+use Rattle.cert_text.specs.declared.parts.Kind.TheVariants.{KindPlaced, KindTimed, KindBetween, KindBest, KindNoSolution}
+use Rattle.cert_text.specs.Parts.{HasText}
+use Rattle.cert_check.specs.Accept.{AllPass, IsFound, IsJudged}
 use Rattle.cert_check.specs.ClassFrames.{load_of}
 use Rattle.cert_check.specs.declared.verdict.Verdict.TheVariants as verdict
 use Rattle.canpack_top.specs.Check.{IsLineOf, Judged, PassingOfKind, load_in}
 use Rattle.canpack_top.specs.Line.{timed_line}
 use Rattle.canpack_top.proofs.check.judge.Goals as goal
+
+-- a kind that has a text is judged
+judged : (kind : Kind) → HasText kind → IsJudged kind
+judged KindPlaced has = tt
+judged KindTimed has = tt
+judged KindBetween has = absurd has
+judged KindBest has = absurd has
+judged KindNoSolution has = absurd has
+
+pub check_cert-requires : goal.check_cert-requires
+check_cert-requires c = record { kind = judged c.args.cert.now.kind c.requires }
 
 -- the line of a certificate of kind `timed` has its load and the common period
 timed_is_line : (judged : Judged) (load hyper : ℕ) → judged.cert.kind ≡ KindTimed → load ≡ load_of judged.problem (grouping_of judged.problem judged.matrix) → hyper ≡ judged.problem.hyper
