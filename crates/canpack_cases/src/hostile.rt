@@ -140,7 +140,7 @@ const TEXTS: [(usize, &[u8], u8, &[u8]); 24] = [
         3,
         b"\xef\xbb\xbfcanpack certificate 1\nkind placed\nend\n",
         4,
-        b"refused CERT\n",
+        b"refused CERT line 1\n",
     ),
 ];
 
@@ -281,7 +281,7 @@ const LARGE: [Large; 11] = [
         second: (0, 0),
         end: b"",
         status: 4,
-        said: b"refused CERT\n",
+        said: b"refused CERT line 4\n",
     },
 ];
 

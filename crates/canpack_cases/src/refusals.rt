@@ -81,20 +81,20 @@ const REFUSED: [(usize, &[u8], &[u8]); 21] = [
     ),
     (
         3,
-        b"canpack certificate 1\nkind timed\nend\n",
-        b"refused CERT\n",
+        b"canpack certificate 1\nkind best\nend\n",
+        b"refused CERT line 2\n",
     ),
     (
         3,
         b"canpack certificate 1\nkind placed\nend",
-        b"refused CERT\n",
+        b"refused CERT cut\n",
     ),
     (
         3,
         b"canpack certificate 1\nkind placed\nend\n\n",
-        b"refused CERT\n",
+        b"refused CERT line 4\n",
     ),
-    (3, b"", b"refused CERT\n"),
+    (3, b"", b"refused CERT cut\n"),
 ];
 
 #[test]

@@ -1,5 +1,5 @@
 -- What is planned and written is accepted.
-use Rattle.std.proofs.Common.{◌≡◌, ◌≢◌, ◌≤◌, ℕ, false, List, [], length, Option, Some, Ok, IsSome, refl, ap, ◌∙◌}
+use Rattle.std.proofs.Common.{◌≡◌, ◌≢◌, ◌≤◌, ℕ, false, List, [], length, Option, Some, Ok, IsSome, All, refl, ap, inl, ◌∙◌, arith}
 use Rattle.std.specs.Prelude.{unwrap_or, nat_lt}
 use Rattle.std.proofs.lemmas.Bool.{le-ltb}
 use Rattle.csv_table.specs.Columns.{◌>>=◌}
@@ -8,6 +8,9 @@ use Rattle.pack_model.specs.Problem.{Parts}
 use Rattle.matrix_text.specs.declared.matrix.MatrixRow.{MatrixRow}
 use Rattle.matrix_text.specs.MatrixText.{MatrixText}
 use Rattle.matrix_text.specs.Placed.{Placed}
+use Rattle.cert_text.specs.CertText.{cert_of_text, placed_parts}
+use Rattle.cert_text.specs.Writing.{HasRoom, NumbersFit, cert_text}
+use Rattle.cert_text.proofs.Back.{cert_back}
 use Rattle.canpack_top.specs.declared.refusal.Role.TheVariants as role
 use Rattle.canpack_top.specs.Check.{Accepts, cert_at, matrix_at, network_at, problem_at, signals_at, size_limit, text_limit, texts_at}
 use Rattle.canpack_top.specs.Command.{Names}
@@ -39,10 +42,18 @@ file_matrix files name text rows holds small reads =
     let fits : nat_lt size_limit (length text) ≡ false = le-ltb size_limit (length text) small in
     rw (holds, fits) reads
 
+-- the text of the certificate of kind `placed` is read as it
+placed_read : cert_of_text placed_cert ≡ Ok placed_parts
+unfolding cert_text
+placed_read =
+    let room : All HasRoom [] = grind arith in
+    let fits : All NumbersFit [] = grind arith in
+    cert_back placed_parts (inl refl) (refl, refl, refl) room fits
+
 -- a file with this text is the certificate of kind `placed`
-file_cert : (files : Files) (name : List ℕ) → file_at files name ≡ Some placed_cert → cert_at files name ≡ Ok tt
+file_cert : (files : Files) (name : List ℕ) → file_at files name ≡ Some placed_cert → cert_at files name ≡ Ok placed_parts
 unfolding cert_at cert_in
-file_cert files name holds = rw holds refl
+file_cert files name holds = rw (holds, placed_read) refl
 
 -- the four files are accepted after the two were written
 pub written_accepted : (names : Names) (before now : Files) (p : Parts) (rows : List MatrixRow) (text : List ℕ)
@@ -54,5 +65,5 @@ written_accepted names before now p rows text told written stands nm nc sm sc sm
     let problem : problem_at names now ≡ Ok p =
     same_problem names before now (written.others told names.network nm nc) (written.others told names.signals sm sc) ∙ stands in
     let matrix : matrix_at now names.matrix ≡ Ok rows = file_matrix now names.matrix text rows (written.first_whole told) small reads in
-    let cert : cert_at now names.cert ≡ Ok tt = file_cert now names.cert (written.second_whole told) in
-    rw (problem, matrix, cert) placed
+    let cert : cert_at now names.cert ≡ Ok placed_parts = file_cert now names.cert (written.second_whole told) in
+    rw (problem, matrix, cert) (placed, tt)

@@ -3,12 +3,13 @@ use Rattle.std.specs.Prelude.{◌≡◌, ◌⊎◌, ⊤, ℕ, List, Option, Some
 use Rattle.std.specs.Result.{result_err}
 use Rattle.std.specs.declared.alloc.Global.{Global}
 use Rattle.pack_base.specs.Outside.{Files, SaidPart}
-use Rattle.canpack_top.specs.Check.{Accepts, HasOnePlace, Rejects, problem_at, texts_at}
+use Rattle.canpack_top.specs.Check.{Accepts, HasLine, HasOnePlace, HasPassing, Rejects, RejectsPart, problem_at, texts_at}
 use Rattle.canpack_top.specs.Command.{Command, command_of, check, plan}
-use Rattle.canpack_top.specs.Line.{placed_line, refused_line, rejected_matrix_line, usage_line}
+use Rattle.canpack_top.specs.Line.{placed_line, refused_line, rejected_line, timed_line, usage_line}
 use Rattle.canpack_top.specs.Plan.{IsPlanned, IsPartPlanned}
 use Rattle.canpack_top.specs.Reads.{CheckFaults, ProblemFaults}
 use Rattle.canpack_top.specs.Write.{WriteFaults}
+use Rattle.canpack_top.specs.declared.ending.Part.{Part}
 use Rattle.canpack_top.specs.declared.ending.Stop.{Stop}
 use Rattle.canpack_top.specs.declared.ending.Stop.TheVariants as stop
 use Rattle.canpack_top.specs.declared.ending.Verdict.{Verdict}
@@ -49,10 +50,30 @@ abbrev pub AcceptedAfter : Files → Command → Type 0
 AcceptedAfter files (check names) = Accepts names files
 AcceptedAfter files (plan names branches) = Accepts names files
 
--- `check` finds that the texts stand and the matrix isn't placed
-abbrev pub Rejected : Files → Command → Type 0
-Rejected files (check names) = Rejects names files
-Rejected files (plan names branches) = ⊥
+-- where the certificate that `check` accepted is of kind `timed`, each frame passes the written test
+abbrev pub PassingEach : Files → Command → Type 0
+PassingEach files (check names) = HasPassing names files
+PassingEach files (plan names branches) = ⊤
+
+-- a line that the command has where it is done
+abbrev pub IsDoneLine : List ℕ → Command → Type 0
+IsDoneLine line (check names) = (line ≡ placed_line) ⊎ ((load : ℕ) × (hyper : ℕ) × (line ≡ timed_line load hyper))
+IsDoneLine line (plan names branches) = line ≡ placed_line
+
+-- the line that the command has where it is done: `check` that of the certificate, `plan` that of kind `placed`
+abbrev pub DoneLine : List ℕ → Files → Command → Type 0
+DoneLine line files (check names) = HasLine line names files
+DoneLine line files (plan names branches) = line ≡ placed_line
+
+-- `check` finds that the texts stand and this part is the first of the acceptance rule that doesn't hold
+abbrev pub Rejected : Part → Files → Command → Type 0
+Rejected failed files (check names) = RejectsPart failed names files
+Rejected failed files (plan names branches) = ⊥
+
+-- `check` finds that the texts stand and the acceptance rule doesn't hold
+abbrev pub IsRejected : Files → Command → Type 0
+IsRejected files (check names) = Rejects names files
+IsRejected files (plan names branches) = ⊥
 
 -- the first refusal of the command's texts, if one is refused
 abbrev pub first_refusal : Files → Command → Option Refusal
@@ -67,7 +88,7 @@ Refused why files command = first_refusal files command ≡ Some why
 abbrev pub IsRefused : Files → Command → Type 0
 IsRefused files command = IsSome (first_refusal files command)
 
--- the files after `placed`: `check` leaves them as they were, `plan` has written its two
+-- the files after the command is done: `check` leaves them as they were, `plan` has written its two
 abbrev pub Done : Files → Files → Command → Type 0
 Done before now (check names) = now ≡ before
 Done before now (plan names branches) = IsPlanned names before now
@@ -80,8 +101,9 @@ PartDone before now (plan names branches) = IsPartPlanned names before now
 -- the line that is due for these words and files, with the files after it; what the files say counts where they are told
 pub data IsDue (before now : Files) (words : List (String Global)) : List ℕ → Type 0 where
   usage : IsNone (command_of words) → now ≡ before → IsDue before now words usage_line
-  placed : (IsSome before → OfCommand words (Accepted before)) → (IsSome before → OfCommand words (Done before now)) → IsDue before now words placed_line
-  rejected : (IsSome before → OfCommand words (Rejected before)) → now ≡ before → IsDue before now words rejected_matrix_line
+  done : (line : List ℕ) → OfCommand words (IsDoneLine line) → (IsSome before → OfCommand words (Accepted before)) → (IsSome before → OfCommand words (DoneLine line before))
+      → (IsSome before → OfCommand words (Done before now)) → IsDue before now words line
+  rejected : (failed : Part) → (IsSome before → OfCommand words (Rejected failed before)) → now ≡ before → IsDue before now words (rejected_line failed)
   refused : (why : Refusal) → (IsSome before → OfCommand words (Refused why before)) → now ≡ before → IsDue before now words (refused_line why)
 
 -- a front of the line that is due was said
@@ -103,11 +125,33 @@ SaysNothing status = (status ≡ 2) ⊎ (status ≡ 3) ⊎ (status ≡ 6)
 -- what a command answered is what the files say, a fault and want of memory aside
 abbrev pub IsAnswer : Result Verdict Stop → Files → Command → Type 0
 IsAnswer (Ok verdict.Placed) files command = Accepted files command
-IsAnswer (Ok verdict.RejectedMatrix) files command = Rejected files command
+IsAnswer (Ok (verdict.Timed load hyper)) files command = Accepted files command
+IsAnswer (Ok (verdict.Rejected failed)) files command = Rejected failed files command
 IsAnswer (Err (stop.Refused why)) files command = Refused why files command
 IsAnswer (Err stop.ReadFault) files command = ⊤
 IsAnswer (Err stop.WriteFault) files command = ⊤
 IsAnswer (Err stop.Memory) files command = ⊤
+
+-- the command was done: a certificate was accepted, or written
+abbrev pub IsDone : Result Verdict Stop → Type 0
+IsDone (Ok verdict.Placed) = ⊤
+IsDone (Ok (verdict.Timed load hyper)) = ⊤
+IsDone (Ok (verdict.Rejected failed)) = ⊥
+IsDone (Err why) = ⊥
+
+-- where the command was done, the line of what was found has this property
+abbrev pub DoneLineHas : (List ℕ → Type 0) → Result Verdict Stop → Type 0
+DoneLineHas P (Ok verdict.Placed) = P placed_line
+DoneLineHas P (Ok (verdict.Timed load hyper)) = P (timed_line load hyper)
+DoneLineHas P (Ok (verdict.Rejected failed)) = ⊤
+DoneLineHas P (Err why) = ⊤
+
+-- a part of the acceptance rule doesn't hold
+abbrev pub IsRejection : Result Verdict Stop → Type 0
+IsRejection (Ok verdict.Placed) = ⊥
+IsRejection (Ok (verdict.Timed load hyper)) = ⊥
+IsRejection (Ok (verdict.Rejected failed)) = ⊤
+IsRejection (Err why) = ⊥
 
 -- a text was refused
 abbrev pub IsRefusal : Result Verdict Stop → Type 0
@@ -121,10 +165,11 @@ IsRefusal (Err stop.Memory) = ⊥
 abbrev pub IsStopped : Result Verdict Stop → Type 0
 IsStopped result = IsErrOf result stop.ReadFault ⊎ IsErrOf result stop.WriteFault ⊎ IsErrOf result stop.Memory
 
--- the files after a command: only after `placed` and after a write fault may they have changed
+-- the files after a command: only `plan` changes them, where it is done and where it has a write fault
 abbrev pub Leaves : Result Verdict Stop → Files → Files → Command → Type 0
 Leaves (Ok verdict.Placed) before now command = IsSome before → Done before now command
-Leaves (Ok verdict.RejectedMatrix) before now command = now ≡ before
+Leaves (Ok (verdict.Timed load hyper)) before now command = IsCheck command × (now ≡ before)
+Leaves (Ok (verdict.Rejected failed)) before now command = now ≡ before
 Leaves (Err (stop.Refused why)) before now command = now ≡ before
 Leaves (Err stop.ReadFault) before now command = now ≡ before
 Leaves (Err stop.WriteFault) before now command = IsSome before → PartDone before now command

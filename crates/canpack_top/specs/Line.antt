@@ -2,6 +2,10 @@
 use Rattle.std.specs.Prelude.{ℕ, List, [], ◌∷◌, ◌++◌, codes, decimal, slice_index_or}
 use Rattle.input_text.specs.SignalsText.{signals_header}
 use Rattle.matrix_text.specs.MatrixText.{matrix_header}
+use Rattle.canpack_top.specs.declared.ending.Part.{Part}
+use Rattle.canpack_top.specs.declared.ending.Part.TheVariants as part
+use Rattle.canpack_top.specs.declared.ending.Verdict.{Verdict}
+use Rattle.canpack_top.specs.declared.ending.Verdict.TheVariants as verdict
 use Rattle.canpack_top.specs.declared.refusal.Role.{Role}
 use Rattle.canpack_top.specs.declared.refusal.Role.TheVariants as role
 use Rattle.canpack_top.specs.declared.refusal.Refusal.{Refusal}
@@ -25,22 +29,34 @@ columns_of role.Matrix = codes "count" ∷ matrix_header
 columns_of role.Cert = []
 
 abbrev pub column_name : Role → ℕ → List ℕ
-column_name part column = slice_index_or (columns_of part) column []
+column_name file column = slice_index_or (columns_of file) column []
 
 abbrev pub placed_line : List ℕ
 placed_line = line (codes "placed")
 
-abbrev pub rejected_matrix_line : List ℕ
-rejected_matrix_line = line (codes "rejected matrix")
+-- the load of a matrix whose frames pass, and the common period, both in ticks
+abbrev pub timed_line : ℕ → ℕ → List ℕ
+timed_line load hyper = codes "timed " ++ (decimal load ++ (codes "/" ++ (decimal hyper ++ codes "\n")))
+
+-- the part of the acceptance rule that doesn't hold
+abbrev pub rejected_line : Part → List ℕ
+rejected_line part.Matrix = line (codes "rejected matrix")
+rejected_line part.Timing = line (codes "rejected timing")
+
+-- what was found of texts that stand
+abbrev pub verdict_line : Verdict → List ℕ
+verdict_line verdict.Placed = placed_line
+verdict_line (verdict.Timed load hyper) = timed_line load hyper
+verdict_line (verdict.Rejected failed) = rejected_line failed
 
 -- which text is refused, and why
 abbrev pub refused_line : Refusal → List ℕ
-refused_line (refusal.TooLarge part) = codes "refused " ++ (role_name part ++ codes " too large\n")
+refused_line (refusal.TooLarge file) = codes "refused " ++ (role_name file ++ codes " too large\n")
 refused_line refusal.NotJson = codes "refused NETWORK not json\n"
 refused_line (refusal.BadMember member) = codes "refused NETWORK member " ++ (decimal member ++ codes "\n")
-refused_line (refusal.BadHeader part) = codes "refused " ++ (role_name part ++ codes " header\n")
-refused_line (refusal.BadRow part row column) =
-    codes "refused " ++ (role_name part ++ (codes " row " ++ (decimal row ++ (codes " column " ++ (column_name part column ++ codes "\n")))))
+refused_line (refusal.BadHeader file) = codes "refused " ++ (role_name file ++ codes " header\n")
+refused_line (refusal.BadRow file row column) =
+    codes "refused " ++ (role_name file ++ (codes " row " ++ (decimal row ++ (codes " column " ++ (column_name file column ++ codes "\n")))))
 refused_line refusal.TooManySignals = codes "refused SIGNALS too many signals\n"
 refused_line refusal.NoSignals = codes "refused SIGNALS no signals\n"
 refused_line (refusal.TwiceNamed row) = codes "refused SIGNALS row " ++ (decimal row ++ codes " named twice\n")
@@ -48,7 +64,8 @@ refused_line (refusal.PduSenders row) = codes "refused SIGNALS row " ++ (decimal
 refused_line (refusal.PduTooLarge id) = codes "refused SIGNALS pdu " ++ (decimal id ++ codes " too large\n")
 refused_line refusal.TooManyItems = codes "refused SIGNALS too many items\n"
 refused_line refusal.PeriodsMixed = codes "refused SIGNALS periods mixed\n"
-refused_line refusal.BadCert = codes "refused CERT\n"
+refused_line (refusal.BadLine number) = codes "refused CERT line " ++ (decimal number ++ codes "\n")
+refused_line refusal.Cut = codes "refused CERT cut\n"
 
 abbrev pub usage_line : List ℕ
 usage_line = line (codes "usage: plan NETWORK SIGNALS MATRIX CERT BRANCHES WORKERS | check NETWORK SIGNALS MATRIX CERT WORKERS | make NUMBER [NETWORK SIGNALS]")

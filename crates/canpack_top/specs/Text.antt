@@ -1,6 +1,5 @@
--- What the four texts say, or why one is refused. Of certificates only the one of kind `placed` is built.
+-- What the four texts say, or why one is refused.
 use Rattle.std.specs.Prelude.{ℕ, List, [], ◌∷◌, ◌++◌, length, codes, nat_lt, Result, Ok, Err, if◌then◌else◌}
-use Rattle.std.specs.Str.{bytes_eq}
 use Rattle.pack_model.specs.declared.network.Network.{Network}
 use Rattle.pack_model.specs.declared.signal.Signal.{Signal}
 use Rattle.pack_model.specs.declared.problem.ProblemFault.{ProblemFault}
@@ -11,6 +10,9 @@ use Rattle.matrix_text.specs.declared.matrix.MatrixRow.{MatrixRow}
 use Rattle.input_text.specs.NetworkText.{NetworkRefusal, bad_member, network_of, not_json}
 use Rattle.input_text.specs.SignalsText.{SignalsRefusal, signals_of}
 use Rattle.input_text.specs.SignalsText as signals
+use Rattle.cert_text.specs.CertText.{CertRefusal, cert_of_text}
+use Rattle.cert_text.specs.CertText as cert
+use Rattle.cert_text.specs.Parts.{CertParts}
 use Rattle.canpack_top.specs.declared.refusal.Role.{Role}
 use Rattle.canpack_top.specs.declared.refusal.Role.TheVariants as role
 use Rattle.canpack_top.specs.declared.refusal.Refusal.{Refusal}
@@ -33,6 +35,10 @@ signals_refused signals.too_many = refusal.TooManySignals
 abbrev pub matrix_refused : MatrixRefusal → Refusal
 matrix_refused matrix.bad_header = refusal.BadHeader role.Matrix
 matrix_refused (matrix.bad_row row column) = refusal.BadRow role.Matrix row column
+
+abbrev pub cert_refused : CertRefusal → Refusal
+cert_refused (cert.bad_line number) = refusal.BadLine number
+cert_refused cert.cut = refusal.Cut
 
 -- the problem of a network and signals is never want of memory, which the last case is
 abbrev pub problem_refused : ProblemFault → Refusal
@@ -61,10 +67,10 @@ signals_in text = refused_as signals_refused (signals_of text)
 unfoldable pub matrix_in : List ℕ → Result (List MatrixRow) Refusal
 matrix_in text = refused_as matrix_refused (matrix_of_text text)
 
--- the certificate of kind `placed`
+-- the text of the certificate of kind `placed`
 abbrev pub placed_cert : List ℕ
 placed_cert = codes "canpack certificate 1" ++ 10 ∷ codes "kind placed" ++ 10 ∷ codes "end" ++ 10 ∷ []
 
--- that a text is the certificate of kind `placed`
-unfoldable pub cert_in : List ℕ → Result (Unit {0}) Refusal
-cert_in text = if bytes_eq text placed_cert then Ok tt else Err refusal.BadCert
+-- the certificate of a text
+unfoldable pub cert_in : List ℕ → Result CertParts Refusal
+cert_in text = refused_as cert_refused (cert_of_text text)

@@ -3,13 +3,29 @@
 use crate::refusal::Refusal;
 use pack_model::Memory;
 
+/// A part of the acceptance rule.
+#[derive(Clone, Copy, Debug, PartialEq, Eq)]
+pub enum Part {
+    /// The matrix is placed.
+    Matrix,
+    /// Each frame is shown to meet its deadline.
+    Timing,
+}
+
 /// What `check` finds of texts that stand.
 #[derive(Clone, Copy, Debug, PartialEq, Eq)]
 pub enum Verdict {
     /// The matrix is placed.
     Placed,
-    /// The matrix isn't placed.
-    RejectedMatrix,
+    /// The matrix is placed, and each frame is shown to pass the written test.
+    Timed {
+        /// The matrix's load, in ticks a common period.
+        load: u128,
+        /// The common period of all signals, in ticks.
+        hyper: u64,
+    },
+    /// The first part of the acceptance rule that doesn't hold.
+    Rejected(Part),
 }
 
 /// Why a command stops before its verdict.

@@ -2,6 +2,7 @@
 ghost use Rattle.std.specs.Prelude.{◌≡◌, IfOk, IsSome, IsErrOf, All};
 ghost use Rattle.pack_model.specs.Network.{NetworkStands};
 ghost use Rattle.pack_model.specs.Signal.{SignalStands};
+ghost use Rattle.cert_text.specs.Parts.{HasText};
 ghost use Rattle.canpack_top.specs.Check.{cert_at, matrix_at, network_at, signals_at};
 ghost use Rattle.canpack_top.specs.Ending.{Gives};
 ghost use Rattle.canpack_top.specs.Reads.{FaultAt, ReadsOnly};
@@ -10,6 +11,7 @@ use crate::ending::Stop;
 use crate::reading::read_file;
 use crate::refusal::Role;
 use crate::texts::{cert_in, matrix_in, network_in, signals_in};
+use cert_text::Cert;
 use matrix_text::Matrix;
 use pack_base::Folder;
 use pack_model::{Network, Signal};
@@ -62,15 +64,16 @@ pub fn matrix_at<F: Folder>(alloc: Global, folder: &mut F, name: &str) -> Result
     matrix_in(alloc, &text)
 }
 
-/// Refuses a file that isn't the certificate of kind `placed`.
+/// The certificate of a file, which is of the kind `placed` or `timed`.
 #[tactic(auto, unfolding(crate::specs::Check::cert_at))]
-pub fn cert_at<F: Folder>(alloc: Global, folder: &mut F, name: &str) -> Result<(), Stop>
-    ensures exact { IsSome (F.files folder.old) → Gives (λ _. tt) result (cert_at (F.files folder.old) name.now) }
+pub fn cert_at<F: Folder>(alloc: Global, folder: &mut F, name: &str) -> Result<Cert, Stop>
+    ensures exact { IsSome (F.files folder.old) → Gives (λ cert. cert) result (cert_at (F.files folder.old) name.now) }
+    ensures kind { IfOk result (λ cert. HasText cert.kind) }
     ensures read_fault { IsErrOf result Stop.ReadFault
         → FaultAt (F.read_faults folder.old) (F.read_faults folder.new) name.now }
     ensures reads { IsErrOf result Stop.WriteFault → ⊥ }
     ensures only { ReadsOnly F.files F.read_faults F.write_faults F.given folder.old folder.new }
 {
     let text = read_file(alloc, folder, name, SIZE_LIMIT, Role::Cert)?;
-    cert_in(&text)
+    cert_in(alloc, &text)
 }

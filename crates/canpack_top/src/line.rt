@@ -1,8 +1,9 @@
 //! The lines that the program says.
 ghost use Rattle.std.specs.Prelude.{◌≡◌, IfOk, string_bytes};
 ghost use Rattle.canpack_top.specs.declared.refusal.Role.TheVariants as role;
-ghost use Rattle.canpack_top.specs.Line.{column_name, placed_line, refused_line, rejected_matrix_line, role_name, usage_line};
+ghost use Rattle.canpack_top.specs.Line.{column_name, placed_line, refused_line, rejected_line, role_name, timed_line, usage_line};
 
+use crate::ending::Part;
 use crate::refusal::{Refusal, Role};
 use pack_model::Memory;
 use std::alloc::{AllocError, Global};
@@ -68,9 +69,7 @@ fn refused_text(alloc: Global, refusal: Refusal) -> Result<String, AllocError>
     ensures { IfOk result (λ text. string_bytes text ≡ refused_line refusal) }
 {
     match refusal {
-        Refusal::TooLarge(role) => {
-            format!(in alloc; "refused {} too large\n", role_name(role))
-        }
+        Refusal::TooLarge(role) => { format!(in alloc; "refused {} too large\n", role_name(role)) }
         Refusal::NotJson => format!(in alloc; "refused NETWORK not json\n"),
         Refusal::BadMember(member) => format!(in alloc; "refused NETWORK member {member}\n"),
         Refusal::BadHeader(role) => format!(in alloc; "refused {} header\n", role_name(role)),
@@ -88,7 +87,8 @@ fn refused_text(alloc: Global, refusal: Refusal) -> Result<String, AllocError>
         Refusal::PduTooLarge(id) => format!(in alloc; "refused SIGNALS pdu {id} too large\n"),
         Refusal::TooManyItems => format!(in alloc; "refused SIGNALS too many items\n"),
         Refusal::PeriodsMixed => format!(in alloc; "refused SIGNALS periods mixed\n"),
-        Refusal::BadCert => format!(in alloc; "refused CERT\n"),
+        Refusal::BadLine(line) => format!(in alloc; "refused CERT line {line}\n"),
+        Refusal::Cut => format!(in alloc; "refused CERT cut\n"),
     }
 }
 
@@ -99,18 +99,34 @@ pub fn refused_line(alloc: Global, refusal: Refusal) -> Result<Vec<u8>, Memory>
     Ok(refused_text(alloc, refusal)?.into_bytes())
 }
 
-/// A certificate was accepted: the matrix is placed.
+fn timed_text(alloc: Global, load: u128, hyper: u64) -> Result<String, AllocError>
+    ensures { IfOk result (λ text. string_bytes text ≡ timed_line load hyper) }
+{
+    format!(in alloc; "timed {load}/{hyper}\n")
+}
+
+/// A certificate of kind `timed` was accepted: the load of its matrix and the common period, in ticks.
+pub fn timed_line(alloc: Global, load: u128, hyper: u64) -> Result<Vec<u8>, Memory>
+    ensures { IfOk result (λ line. line.items ≡ timed_line load hyper) }
+{
+    Ok(timed_text(alloc, load, hyper)?.into_bytes())
+}
+
+/// A certificate of kind `placed` was accepted: the matrix is placed.
 pub fn placed_line() -> &'static [u8]
     ensures { result.now ≡ placed_line }
 {
     b"placed\n"
 }
 
-/// The matrix isn't placed.
-pub fn rejected_matrix_line() -> &'static [u8]
-    ensures { result.now ≡ rejected_matrix_line }
+/// This part of the acceptance rule is the first that doesn't hold.
+pub fn rejected_line(part: Part) -> &'static [u8]
+    ensures { result.now ≡ rejected_line part }
 {
-    b"rejected matrix\n"
+    match part {
+        Part::Matrix => b"rejected matrix\n",
+        Part::Timing => b"rejected timing\n",
+    }
 }
 
 /// How the program is used.

@@ -37,6 +37,9 @@ pub enum Refusal {
     TooManyItems,
     /// The least common multiple of the periods is above 10^15 ticks.
     PeriodsMixed,
-    /// CERT is no certificate of a kind that is built.
-    BadCert,
+    /// The first line of CERT, counted from 1, that can't stand after the lines before it, or the line where bytes
+    /// follow the line `end`.
+    BadLine(u64),
+    /// Each line of CERT can stand, but the line `end` is missing.
+    Cut,
 }

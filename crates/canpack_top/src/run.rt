@@ -1,19 +1,24 @@
 //! One command.
 ghost use Rattle.std.specs.Prelude.{◌≡◌, ◌≢◌, ◌⊎◌, Ok, Err, IsSome, IsErrOf, IsTrue, true};
 ghost use Rattle.pack_base.specs.Outside.{Later};
-ghost use Rattle.canpack_top.specs.declared.ending.Verdict.TheVariants as verdict;
 ghost use Rattle.canpack_top.specs.Answer.{
   Accepted,
   AcceptedAfter,
+  DoneLine,
+  DoneLineHas,
   IsAnswer,
   IsCheck,
+  IsDone,
+  IsDoneLine,
   IsRefusal,
   IsRefused,
+  IsRejected,
+  IsRejection,
   IsStopped,
   Leaves,
   OnePlaceEach,
+  PassingEach,
   ReadFaultsRose,
-  Rejected,
   WriteFaultsRose,
 };
 ghost use Rattle.canpack_top.specs.Command.{AreNames, seen};
@@ -31,14 +36,17 @@ pub fn run<F: Folder>(alloc: Global, folder: &mut F, command: Command<'_>) -> Re
 
     ensures answer { IsSome (F.files folder.old) → IsAnswer result (F.files folder.old) (seen command.entry) }
     ensures accepts { IsSome (F.files folder.old) → Accepted (F.files folder.old) (seen command.entry)
-        → (result ≡ Ok verdict.Placed) ⊎ IsStopped result }
-    ensures rejects { IsSome (F.files folder.old) → Rejected (F.files folder.old) (seen command.entry)
-        → (result ≡ Ok verdict.RejectedMatrix) ⊎ IsStopped result }
+        → IsDone result ⊎ IsStopped result }
+    ensures rejects { IsSome (F.files folder.old) → IsRejected (F.files folder.old) (seen command.entry)
+        → IsRejection result ⊎ IsStopped result }
     ensures refuses { IsSome (F.files folder.old) → IsRefused (F.files folder.old) (seen command.entry)
         → IsRefusal result ⊎ IsStopped result }
 
-    ensures one_place { IsSome (F.files folder.old) → result ≡ Ok verdict.Placed → OnePlaceEach (F.files folder.old) (seen command.entry) }
-    ensures accepted_after { IsSome (F.files folder.old) → result ≡ Ok verdict.Placed → AcceptedAfter (F.files folder.new) (seen command.entry) }
+    ensures one_place { IsSome (F.files folder.old) → IsDone result → OnePlaceEach (F.files folder.old) (seen command.entry) }
+    ensures passes { IsSome (F.files folder.old) → IsDone result → PassingEach (F.files folder.old) (seen command.entry) }
+    ensures accepted_after { IsSome (F.files folder.old) → IsDone result → AcceptedAfter (F.files folder.new) (seen command.entry) }
+    ensures done_line { DoneLineHas (λ line. IsDoneLine line (seen command.entry)) result }
+    ensures line { IsSome (F.files folder.old) → DoneLineHas (λ line. DoneLine line (F.files folder.old) (seen command.entry)) result }
     ensures read_fault { IsErrOf result Stop.ReadFault
         → ReadFaultsRose (F.read_faults folder.old) (F.read_faults folder.new) (seen command.entry) }
     ensures write_fault { IsErrOf result Stop.WriteFault

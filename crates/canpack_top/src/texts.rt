@@ -1,18 +1,20 @@
-//! The four texts. Of certificates only the one of kind `placed` is built.
+//! The four texts.
 ghost use Rattle.std.specs.Prelude.{◌≡◌, IfOk, All};
 ghost use Rattle.pack_model.specs.Network.{NetworkStands};
 ghost use Rattle.pack_model.specs.Signal.{SignalStands};
+ghost use Rattle.cert_text.specs.Parts.{HasText};
 ghost use Rattle.canpack_top.specs.Ending.{Says};
 ghost use Rattle.canpack_top.specs.Text.{cert_in, matrix_in, network_in, signals_in};
 
 use crate::ending::Stop;
 use crate::refusal::{Refusal, Role};
+use cert_text::{Cert, CertFault, read_cert};
 use input_text::{NetworkFault, SignalsFault, read_network, read_signals};
 use matrix_text::{Matrix, MatrixFault, read_matrix};
 use pack_model::{Network, Signal};
 use std::alloc::Global;
 
-/// The certificate of kind `placed`.
+/// The text of the certificate of kind `placed`.
 pub const PLACED_CERT: &[u8] = b"canpack certificate 1\nkind placed\nend\n";
 
 /// The network of a text.
@@ -65,14 +67,16 @@ pub fn matrix_in(alloc: Global, text: &[u8]) -> Result<Matrix, Stop>
     }
 }
 
-/// Refuses a text that isn't the certificate of kind `placed`.
+/// The certificate of a text, which is of the kind `placed` or `timed`.
 #[tactic(auto, unfolding(crate::specs::Text::cert_in))]
-pub fn cert_in(text: &[u8]) -> Result<(), Stop>
-    ensures { Says (λ _. tt) result (cert_in text.now) }
+pub fn cert_in(alloc: Global, text: &[u8]) -> Result<Cert, Stop>
+    ensures exact { Says (λ cert. cert) result (cert_in text.now) }
+    ensures kind { IfOk result (λ cert. HasText cert.kind) }
 {
-    if text == PLACED_CERT {
-        Ok(())
-    } else {
-        Err(Stop::Refused(Refusal::BadCert))
+    match read_cert(alloc, text) {
+        Ok(cert) => Ok(cert),
+        Err(CertFault::BadLine(line)) => Err(Stop::Refused(Refusal::BadLine(line))),
+        Err(CertFault::Cut) => Err(Stop::Refused(Refusal::Cut)),
+        Err(CertFault::Memory) => Err(Stop::Memory),
     }
 }

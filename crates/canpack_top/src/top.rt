@@ -1,19 +1,24 @@
 //! The top call.
-ghost use Rattle.std.specs.Prelude.{◌≡◌, ◌≢◌, ◌⊎◌, ◌≤◌, IsSome, IsNone};
+ghost use Rattle.std.specs.Prelude.{◌≡◌, ◌≢◌, ◌⊎◌, ◌≤◌, ℕ, List, IsSome, IsNone};
 ghost use Rattle.pack_base.specs.Counts.{Rose};
 ghost use Rattle.pack_base.specs.Outside.{Later, SaidPart, and_said};
+ghost use Rattle.canpack_top.specs.declared.ending.Part.{Part as GivenPart};
 ghost use Rattle.canpack_top.specs.declared.refusal.Refusal.{Refusal as GivenRefusal};
 ghost use Rattle.canpack_top.specs.Answer.{
   Accepted,
   AcceptedAfter,
   Done,
+  DoneLine,
   IsCheck,
+  IsDoneLine,
   IsExcused,
   IsRefused,
+  IsRejected,
   LeavesFiles,
   OfCommand,
   OnePlaceEach,
   PartDone,
+  PassingEach,
   ReadFaultsRose,
   Refused,
   Rejected,
@@ -22,11 +27,11 @@ ghost use Rattle.canpack_top.specs.Answer.{
   WriteFaultsRose,
 };
 ghost use Rattle.canpack_top.specs.Command.{command_of};
-ghost use Rattle.canpack_top.specs.Line.{placed_line, refused_line, rejected_matrix_line, usage_line};
+ghost use Rattle.canpack_top.specs.Line.{refused_line, rejected_line, timed_line, usage_line};
 
 use crate::command::command_of;
 use crate::ending::{Stop, Verdict};
-use crate::line::{placed_line, refused_line, rejected_matrix_line, usage_line};
+use crate::line::{placed_line, refused_line, rejected_line, timed_line, usage_line};
 use crate::refusal::Refusal;
 use crate::run::run;
 use pack_base::{Folder, Gate, Sink};
@@ -63,8 +68,24 @@ fn say_refused<O: Sink>(alloc: Global, out: &mut O, refusal: Refusal) -> u8
     }
 }
 
+/// Says that a certificate of kind `timed` was accepted and answers 0, or 7 where saying failed, or 6 where the line
+/// found no memory.
+fn say_timed<O: Sink>(alloc: Global, out: &mut O, load: u128, hyper: u64) -> u8
+    ensures said { result ≡ 0 → O.said out.new ≡ and_said (O.said out.old) (timed_line load hyper) }
+    ensures other { (result ≡ 0) ⊎ (result ≡ 6) ⊎ (result ≡ 7) }
+    ensures memory { result ≡ 6 → O.said out.new ≡ O.said out.old }
+    ensures fault { result ≡ 7 → Rose (O.faults out.old) (O.faults out.new) }
+    ensures part { result ≡ 7 → SaidPart (timed_line load hyper) (O.said out.old) (O.said out.new) }
+    ensures later { O.faults out.old ≤ O.faults out.new }
+{
+    match timed_line(alloc, load, hyper) {
+        Ok(line) => say(out, &line, 0),
+        Err(_) => 6,
+    }
+}
+
 /// Does what the words ask for, and answers the status: 0 done, 1 usage, 2 a read fault, 3 a write fault, 4 a refused
-/// text, 5 a rejected matrix, 6 want of memory, 7 a fault in saying the line.
+/// text, 5 a rejected certificate, 6 want of memory, 7 a fault in saying the line.
 pub fn canpack<R: Threads, F: Folder, O: Sink, G: Gate + Sync>(
     _rt: &R,
     alloc: Global,
@@ -84,14 +105,16 @@ pub fn canpack<R: Threads, F: Folder, O: Sink, G: Gate + Sync>(
     // What the files say, where they are told.
     ensures accepted { result ≡ 0 → IsSome (F.files folder.old) → OfCommand words.now (Accepted (F.files folder.old)) }
     ensures one_place { result ≡ 0 → IsSome (F.files folder.old) → OfCommand words.now (OnePlaceEach (F.files folder.old)) }
-    ensures rejected { result ≡ 5 → IsSome (F.files folder.old) → OfCommand words.now (Rejected (F.files folder.old)) }
+    ensures passes { result ≡ 0 → IsSome (F.files folder.old) → OfCommand words.now (PassingEach (F.files folder.old)) }
+    ensures rejected { result ≡ 5 → (failed : GivenPart) × (IsSome (F.files folder.old) → OfCommand words.now (Rejected failed (F.files folder.old)))
+        × (O.said out.new ≡ and_said (O.said out.old) (rejected_line failed)) }
     ensures refused { result ≡ 4 → (why : GivenRefusal) × (IsSome (F.files folder.old) → OfCommand words.now (Refused why (F.files folder.old)))
         × (O.said out.new ≡ and_said (O.said out.old) (refused_line why)) }
 
     // The files decide, a fault and want of memory aside.
     ensures accepts { IsSome (F.files folder.old) → OfCommand words.now (Accepted (F.files folder.old))
         → (result ≡ 0) ⊎ IsExcused result }
-    ensures rejects { IsSome (F.files folder.old) → OfCommand words.now (Rejected (F.files folder.old))
+    ensures rejects { IsSome (F.files folder.old) → OfCommand words.now (IsRejected (F.files folder.old))
         → (result ≡ 5) ⊎ IsExcused result }
     ensures refuses { IsSome (F.files folder.old) → OfCommand words.now (IsRefused (F.files folder.old))
         → (result ≡ 4) ⊎ IsExcused result }
@@ -106,8 +129,9 @@ pub fn canpack<R: Threads, F: Folder, O: Sink, G: Gate + Sync>(
 
     // The line that was said.
     ensures usage_said { result ≡ 1 → O.said out.new ≡ and_said (O.said out.old) usage_line }
-    ensures placed_said { result ≡ 0 → O.said out.new ≡ and_said (O.said out.old) placed_line }
-    ensures rejected_said { result ≡ 5 → O.said out.new ≡ and_said (O.said out.old) rejected_matrix_line }
+    ensures done_said { result ≡ 0 → (line : List ℕ) × OfCommand words.now (IsDoneLine line)
+        × (IsSome (F.files folder.old) → OfCommand words.now (DoneLine line (F.files folder.old)))
+        × (O.said out.new ≡ and_said (O.said out.old) line) }
     ensures part_said { result ≡ 7 → SaysPart (F.files folder.old) (F.files folder.new) words.now (O.said out.old) (O.said out.new) }
     ensures nothing_said { SaysNothing result → O.said out.new ≡ O.said out.old }
     ensures said_later { O.faults out.old ≤ O.faults out.new }
@@ -117,7 +141,8 @@ pub fn canpack<R: Threads, F: Folder, O: Sink, G: Gate + Sync>(
     };
     match run(alloc, folder, command) {
         Ok(Verdict::Placed) => say(out, placed_line(), 0),
-        Ok(Verdict::RejectedMatrix) => say(out, rejected_matrix_line(), 5),
+        Ok(Verdict::Timed { load, hyper }) => say_timed(alloc, out, load, hyper),
+        Ok(Verdict::Rejected(part)) => say(out, rejected_line(part), 5),
         Err(Stop::Refused(refusal)) => say_refused(alloc, out, refusal),
         Err(Stop::ReadFault) => 2,
         Err(Stop::WriteFault) => 3,
