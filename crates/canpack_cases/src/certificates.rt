@@ -31,12 +31,7 @@ const CERTIFICATES: [(&[u8], &[u8], u8, &[u8]); 17] = [
         b"rejected timing\n",
     ),
     // Fronts, a second end, and lines that can't stand.
-    (
-        MATRIX,
-        b"canpack certificate 1\n",
-        4,
-        b"refused CERT cut\n",
-    ),
+    (MATRIX, b"canpack certificate 1\n", 4, b"refused CERT cut\n"),
     (
         MATRIX,
         b"canpack certificate 1\nkind timed\n",
