@@ -1,8 +1,10 @@
-//! The worked cases of the top call, as tables over a folder and a sink in memory.
+//! The worked cases of the top call, as tables over a folder and a sink in memory, and those of containers.
 #![tactic(auto)]
 
 #[cfg(test)]
 mod certificates;
+#[cfg(test)]
+mod container_rows;
 #[cfg(test)]
 mod containers;
 #[cfg(test)]

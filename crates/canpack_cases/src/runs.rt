@@ -31,7 +31,7 @@ pub const CERT: &[u8] = b"canpack certificate 1\nkind placed\nend\n";
 pub const TWO_SIGNALS: [&[u8]; 4] = [NETWORK, SIGNALS, MATRIX, CERT];
 
 /// A folder with these texts under the four names.
-pub fn folder_of<R: AllocGlobal>(rt: &R, texts: &[&[u8]; 4]) -> Result<MemFolder, Memory> {
+pub(crate) fn folder_of<R: AllocGlobal>(rt: &R, texts: &[&[u8]; 4]) -> Result<MemFolder, Memory> {
     let mut folder = MemFolder::new(rt.alloc());
     for (name, text) in NAMES.iter().zip(texts) {
         folder.put(name, text)?;
@@ -40,7 +40,7 @@ pub fn folder_of<R: AllocGlobal>(rt: &R, texts: &[&[u8]; 4]) -> Result<MemFolder
 }
 
 /// The status of the top call for these words.
-pub fn status_of<R: AllocGlobal + Threads>(
+pub(crate) fn status_of<R: AllocGlobal + Threads>(
     rt: &R,
     words: &[&str],
     folder: &mut MemFolder,
