@@ -14,7 +14,7 @@ use Rattle.cert_text.specs.declared.parts.Kind.{Kind}
 use Rattle.cert_text.specs.declared.parts.Kind.TheVariants.{KindPlaced, KindTimed, KindBetween, KindBest, KindNoSolution}
 use Rattle.cert_text.specs.Parts.{CertParts}
 use Rattle.cert_check.specs.Accept.{AllPass, TimingStands}
-use Rattle.cert_check.specs.ClassFrames.{load_of}
+use Rattle.class_frame.specs.Classes.{load_of}
 use Rattle.canpack_top.specs.declared.refusal.Role.TheVariants as role
 use Rattle.canpack_top.specs.declared.refusal.Refusal.{Refusal}
 use Rattle.canpack_top.specs.declared.ending.Part.{Part}
@@ -104,7 +104,7 @@ FailsFirst part.Timing judged = MatrixHolds judged × ¬ TimingHolds judged
 
 -- the load of the matrix, in ticks a common period
 unfoldable pub load_in : Judged → ℕ
-load_in judged = load_of judged.problem (grouping_of judged.problem judged.matrix)
+load_in judged = load_of judged.problem judged.problem.items (grouping_of judged.problem judged.matrix)
 
 -- the line of an accepted certificate of a kind, with the load and the common period
 abbrev pub line_of_kind : Kind → ℕ → ℕ → List ℕ

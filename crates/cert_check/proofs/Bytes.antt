@@ -4,9 +4,9 @@ use Rattle.std.specs.List.{list_any, cons_option, zip}
 use Rattle.std.specs.Int.{div_ceil}
 use Rattle.std.proofs.lemmas.List.Sums.{sum-map}
 use Rattle.pack_model.specs.declared.item.Item.{Item}
-use Rattle.pack_model.specs.Grouping.{class_of}
+use Rattle.class_frame.specs.Grouping.{class_of}
 use Rattle.container_pdu.specs.Bytes.{bytes_of_parts, header_bytes, header_of}
-use Rattle.container_pdu.specs.Class.{ids_of, is_pdu, bytes_of_item, bytes_of_items}
+use Rattle.class_frame.specs.Frame.{ids_of, is_pdu, bytes_of_item, bytes_of_items}
 
 -- items with no ids are no I-PDUs
 none_pdu : (items : List Item) → ids_of items ≡ [] → list_any is_pdu items ≡ false

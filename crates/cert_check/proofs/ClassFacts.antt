@@ -9,9 +9,9 @@ use Rattle.pack_model.specs.declared.item.Item.{Item}
 use Rattle.pack_model.specs.declared.signal.Signal.{Signal}
 use Rattle.pack_model.specs.Signal.{SignalStands}
 use Rattle.pack_model.specs.Problem.{Parts, IsSorted}
-use Rattle.pack_model.specs.Grouping.{classes_of, class_of, IsGrouping}
-use Rattle.pack_model.specs.ClassTimes.{signals_of_class}
-use Rattle.pack_model.proofs.GroupingLaws.{classes_of-push, class_of-cons, All-class_of}
+use Rattle.class_frame.specs.Grouping.{classes_of, class_of, IsGrouping}
+use Rattle.cert_check.specs.ClassFrames.{signals_of_class}
+use Rattle.class_frame.proofs.GroupingLaws.{classes_of-push, class_of-cons, All-class_of}
 use Rattle.pack_model.proofs.ItemFacts.{IsItemOf, items_of_signals}
 
 -- labels by first use below n are used

@@ -4,8 +4,8 @@ use Rattle.std.specs.List.{filter_map, cons_option}
 use Rattle.std.proofs.lemmas.List.{take_all}
 use Rattle.std.proofs.lemmas.List.Elements.{filter_map-append}
 use Rattle.std.proofs.lemmas.List.Sums.{sum_by-append}
-use Rattle.pack_model.specs.Grouping.{class_of}
-use Rattle.pack_model.proofs.GroupingLaws.{class_of-more}
+use Rattle.class_frame.specs.Grouping.{class_of}
+use Rattle.class_frame.proofs.GroupingLaws.{class_of-more}
 
 -- an item of the class comes last
 pub class_taken : {X : Type 0} (k : ℕ) (labels : List ℕ) (xs : List X) (i : ℕ) (x : X) → length labels ≡ length xs → i < length xs → x ≡ get_or xs i x → get_or labels i 0 ≡ k → class_of k (take (i + 1) labels) (take (i + 1) xs) ≡ class_of k (take i labels) (take i xs) ++ x ∷ []

@@ -9,9 +9,9 @@ use Rattle.std.proofs.lemmas.List.FromFn.{get_or-range_with_len, length-range_wi
 use Rattle.std.proofs.lemmas.List.Sums.{passes_at_first}
 use Rattle.std.proofs.lemmas.Map.Keys.{IsDistinct-head, IsDistinct-tail, IsDistinct-cons, IsDistinct-from_apart, apart_from_distinct}
 use Rattle.pack_model.specs.Problem.{Parts, distinct}
-use Rattle.pack_model.specs.Grouping.{classes_of, IsGrouping}
+use Rattle.class_frame.specs.Grouping.{classes_of, IsGrouping}
 use Rattle.pack_model.proofs.Distinct.{distinct-push, distinct-front, length-distinct}
-use Rattle.pack_model.proofs.GroupingLaws.{classes_of-push}
+use Rattle.class_frame.proofs.GroupingLaws.{classes_of-push}
 use Rattle.matrix_text.specs.declared.matrix.MatrixRow.{MatrixRow}
 use Rattle.matrix_text.specs.Frames.{label_in, identifiers_of, frames_of, grouping_of, order_of, identifiers}
 

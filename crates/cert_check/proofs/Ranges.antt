@@ -11,14 +11,13 @@ use Rattle.pack_model.specs.declared.network.Network.{Network}
 use Rattle.pack_model.specs.Network.{NetworkStands}
 use Rattle.pack_model.specs.Signal.{SignalStands}
 use Rattle.pack_model.specs.Problem.{Parts, IsProblem, IsSorted}
-use Rattle.pack_model.specs.Grouping.{classes_of, class_of, IsGrouping}
-use Rattle.pack_model.specs.ClassTimes.{least, greatest, signals_of_class}
+use Rattle.class_frame.specs.Grouping.{classes_of, class_of, IsGrouping}
+use Rattle.class_frame.specs.Frame.{least, greatest, bytes_of_items, size_of_items}
+use Rattle.cert_check.specs.ClassFrames.{signals_of_class}
 use Rattle.fd_length.specs.Size.{sizes}
 use Rattle.frame_ticks.specs.Worst.{worst_ticks_of, crc_bits_of}
 use Rattle.busy_period.specs.Timed.{IsInRange}
 use Rattle.frame_ticks.proofs.WorstLaws.{worst_ticks_of-some}
-use Rattle.container_pdu.specs.Class.{bytes_of_items}
-use Rattle.matrix_text.specs.LaidOut.{size_of_items}
 use Rattle.cert_check.specs.ClassFrames.{ticks_of_class, timed_of_class}
 use Rattle.cert_check.specs.declared.times.Times.{Times}
 use Rattle.cert_check.specs.Merged.{Merges, no_time}
@@ -77,7 +76,7 @@ all_from_test p P each (x ∷ xs) holds =
     let parts = and_parts (p x) (list_all p xs) holds in
     All-cons P x xs (each x parts.0) (all_from_test p P each xs parts.1)
 
-size_low : (items : List Item) → size_of_items items ≤ 64
+size_low : (items : List Item) → unwrap_or (size_of_items items) 0 ≤ 64
 size_low items = found_low (λ listed. nat_le (bytes_of_items items) listed) 64 sizes (all_from_test (λ listed. nat_le listed 64) (λ x. x ≤ 64) (λ x e. leb-true x 64 e) sizes refl)
 
 -- a frame of at most 64 bytes has at most 10^8 ticks
@@ -131,8 +130,8 @@ class_in_range problem labels label stands sorted grouping low =
       some_period = in_ticks_low ticks (least (map (λ signal. signal.period_us) signals)) stands.network.ticks_low period.0;
       period = in_ticks_high ticks (least (map (λ signal. signal.period_us) signals)) stands.network.ticks_high period.1;
       jitter = in_ticks_high ticks (greatest (map (λ signal. signal.jitter_us) signals)) stands.network.ticks_high jitter;
-      some_ticks = omega (arith, worst_ticks_of-some problem.network (size_of_items (class_of label labels problem.items)) stands.network);
-      ticks = ticks_high problem.network (size_of_items (class_of label labels problem.items)) stands.network (size_low (class_of label labels problem.items));
+      some_ticks = omega (arith, worst_ticks_of-some problem.network (unwrap_or (size_of_items (class_of label labels problem.items)) 0) stands.network);
+      ticks = ticks_high problem.network (unwrap_or (size_of_items (class_of label labels problem.items)) 0) stands.network (size_low (class_of label labels problem.items));
       some_deadline = in_ticks_low ticks (least (map (λ signal. signal.deadline_us) signals)) stands.network.ticks_low deadline.0;
       deadline = in_ticks_high ticks (least (map (λ signal. signal.deadline_us) signals)) stands.network.ticks_high deadline.1;
     }
@@ -142,4 +141,4 @@ bit_low network size = omega arith
 
 -- a nominal bit is no longer than a frame
 pub bit_within : (problem : Parts) (labels : List ℕ) (label : ℕ) → problem.network.nominal_ticks ≤ ticks_of_class problem labels label
-bit_within problem labels label = bit_low problem.network (size_of_items (class_of label labels problem.items))
+bit_within problem labels label = bit_low problem.network (unwrap_or (size_of_items (class_of label labels problem.items)) 0)

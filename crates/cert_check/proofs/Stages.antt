@@ -4,29 +4,30 @@ use Rattle.std.specs.List.{range_with_len}
 use Rattle.std.proofs.lemmas.List.Elements.{All-map}
 use Rattle.std.proofs.lemmas.List.FromFn.{length-map-range_with_len}
 use Rattle.pack_model.specs.Problem.{Parts, IsProblem}
-use Rattle.pack_model.specs.Grouping.{classes_of, IsGrouping}
+use Rattle.class_frame.specs.Grouping.{classes_of, IsGrouping}
 use Rattle.pack_model.proofs.Laws.{tests}
-use Rattle.pack_model.proofs.GroupingLaws.{classes_of-le-length}
+use Rattle.class_frame.proofs.GroupingLaws.{classes_of-le-length}
 use Rattle.busy_period.specs.declared.timed.Timed.{Timed}
 use Rattle.busy_period.specs.Timed.{IsInRange}
 use Rattle.busy_period.specs.Stage.{IsStage}
 use Rattle.response_test.specs.Queueing.{IsBit}
-use Rattle.cert_check.specs.ClassFrames.{timed_of_class, frames_of_classes}
+use Rattle.cert_check.specs.ClassFrames.{timed_of_class}
+use Rattle.class_frame.specs.Classes.{frames_of_classes}
 use Rattle.cert_check.specs.Timing.{AreOrdered}
 use Rattle.cert_check.proofs.Ranges.{bit_within}
 
 -- there are as many frames as classes
-count_frames : (problem : Parts) (labels : List ℕ) (frames : List Timed) → frames ≡ frames_of_classes problem labels → length frames ≡ classes_of labels
+count_frames : (problem : Parts) (labels : List ℕ) (frames : List Timed) → frames ≡ frames_of_classes problem problem.items labels → length frames ≡ classes_of labels
 count_frames problem labels frames is = ap length is ∙ length-map-range_with_len (timed_of_class problem labels) 0 (classes_of labels)
 
 -- at most 128
-pub few_frames : (problem : Parts) (labels : List ℕ) (frames : List Timed) → IsProblem problem → IsGrouping problem.items labels → frames ≡ frames_of_classes problem labels → length frames ≤ 128
+pub few_frames : (problem : Parts) (labels : List ℕ) (frames : List Timed) → IsProblem problem → IsGrouping problem.items labels → frames ≡ frames_of_classes problem problem.items labels → length frames ≤ 128
 few_frames problem labels frames stands grouping is = omega (arith, count_frames problem labels frames is, classes_of-le-length problem.items labels grouping, (tests problem stands).few_items)
 
 pub few_classes : (problem : Parts) (labels : List ℕ) → IsProblem problem → IsGrouping problem.items labels → classes_of labels ≤ 128
 few_classes problem labels stands grouping = omega (arith, classes_of-le-length problem.items labels grouping, (tests problem stands).few_items)
 
-pub stage : (problem : Parts) (labels order : List ℕ) (frames : List Timed) → IsProblem problem → IsGrouping problem.items labels → AreOrdered labels order → frames ≡ frames_of_classes problem labels → All IsInRange frames → (place : ℕ) → place < length order → IsStage frames order place
+pub stage : (problem : Parts) (labels order : List ℕ) (frames : List Timed) → IsProblem problem → IsGrouping problem.items labels → AreOrdered labels order → frames ≡ frames_of_classes problem problem.items labels → All IsInRange frames → (place : ℕ) → place < length order → IsStage frames order place
 stage problem labels order frames stands grouping ordered is in_range place inside = record {
   few = few_frames problem labels frames stands grouping is;
   in_range = in_range;
@@ -36,7 +37,7 @@ stage problem labels order frames stands grouping ordered is in_range place insi
 }
 
 -- and a time up to that of a nominal bit is one of a bit
-pub bit : (problem : Parts) (labels : List ℕ) (frames : List Timed) → frames ≡ frames_of_classes problem labels → (time : ℕ) → 1 ≤ time → time ≤ problem.network.nominal_ticks → IsBit frames time
+pub bit : (problem : Parts) (labels : List ℕ) (frames : List Timed) → frames ≡ frames_of_classes problem problem.items labels → (time : ℕ) → 1 ≤ time → time ≤ problem.network.nominal_ticks → IsBit frames time
 bit problem labels frames is time some most = record {
   some = some;
   within = subst (All (λ (frame : Timed). time ≤ frame.ticks)) (sym is)

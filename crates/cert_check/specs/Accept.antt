@@ -13,7 +13,7 @@ use Rattle.cert_check.specs.declared.verdict.Verdict.{Verdict}
 use Rattle.cert_check.specs.declared.verdict.Verdict.TheVariants as verdict
 use Rattle.cert_check.specs.declared.verdict.CheckFault.{CheckFault}
 use Rattle.cert_check.specs.declared.verdict.CheckFault.TheVariants as fault
-use Rattle.cert_check.specs.ClassFrames.{frames_of_classes, load_of}
+use Rattle.class_frame.specs.Classes.{frames_of_classes, load_of}
 
 -- the kind is placed or timed
 abbrev pub IsJudged : Kind → Type 0
@@ -26,7 +26,7 @@ IsJudged KindNoSolution = ⊥
 -- a frame line shows that the frame at a place of the order of ascending identifiers passes
 abbrev pub ShowsFrame : Parts → List MatrixRow → ℕ → FrameLine → Type 0
 ShowsFrame problem rows place line =
-    IsShown (frames_of_classes problem (grouping_of problem rows)) (order_of problem rows) place problem.network.nominal_ticks line.busy line.queue
+    IsShown (frames_of_classes problem problem.items (grouping_of problem rows)) (order_of problem rows) place problem.network.nominal_ticks line.busy line.queue
 
 -- there is one line for each frame, by ascending identifier, and each shows that its frame passes
 pub record TimingStands (problem : Parts) (rows : List MatrixRow) (lines : List FrameLine) : Type 0 where
@@ -36,13 +36,13 @@ pub record TimingStands (problem : Parts) (rows : List MatrixRow) (lines : List 
 -- each frame passes the written test in the order of ascending identifiers
 abbrev pub AllPass : Parts → List MatrixRow → Type 0
 AllPass problem rows = (place : ℕ) → place < length (order_of problem rows)
-    → FramePasses (frames_of_classes problem (grouping_of problem rows)) (order_of problem rows) place problem.network.nominal_ticks
+    → FramePasses (frames_of_classes problem problem.items (grouping_of problem rows)) (order_of problem rows) place problem.network.nominal_ticks
 
 -- what a matrix and a certificate of a problem are found to be: the verdict of the kind, or the first part that fails
 abbrev pub IsFound : Parts → List MatrixRow → CertParts → Result Verdict CheckFault → Type 0
 IsFound problem rows cert (Ok verdict.Placed) = (cert.kind ≡ KindPlaced) × Placed problem rows
 IsFound problem rows cert (Ok (verdict.Timed load)) =
-    (cert.kind ≡ KindTimed) × Placed problem rows × TimingStands problem rows cert.frames × (load ≡ load_of problem (grouping_of problem rows))
+    (cert.kind ≡ KindTimed) × Placed problem rows × TimingStands problem rows cert.frames × (load ≡ load_of problem problem.items (grouping_of problem rows))
 IsFound problem rows cert (Ok (verdict.Between best lower)) = ⊥
 IsFound problem rows cert (Ok (verdict.Best load)) = ⊥
 IsFound problem rows cert (Ok verdict.NoSolution) = ⊥

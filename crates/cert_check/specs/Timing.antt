@@ -2,7 +2,7 @@
 use Rattle.std.specs.Prelude.{◌≡◌, ◌<◌, ⊤, ℕ, List, length, slice_index_or, nat_eq, All, Result, Ok, Err}
 use Rattle.std.specs.List.{IsDistinct}
 use Rattle.pack_model.specs.Problem.{Parts}
-use Rattle.pack_model.specs.Grouping.{classes_of}
+use Rattle.class_frame.specs.Grouping.{classes_of}
 use Rattle.busy_period.specs.declared.timed.Timed.{Timed}
 use Rattle.response_test.specs.Frame.{FramePasses, IsShown}
 use Rattle.cert_text.specs.declared.parts.FrameLine.{FrameLine}
@@ -10,7 +10,7 @@ use Rattle.cert_check.specs.declared.verdict.Verdict.{Verdict}
 use Rattle.cert_check.specs.declared.verdict.Verdict.TheVariants as verdict
 use Rattle.cert_check.specs.declared.verdict.CheckFault.{CheckFault}
 use Rattle.cert_check.specs.declared.verdict.CheckFault.TheVariants as fault
-use Rattle.cert_check.specs.ClassFrames.{frames_of_classes, load_of}
+use Rattle.class_frame.specs.Classes.{frames_of_classes, load_of}
 
 -- the order names as many different labels as there are classes
 pub record AreOrdered (labels order : List ℕ) : Type 0 where
@@ -25,16 +25,16 @@ pub record AreShown (frames : List Timed) (order : List ℕ) (bit : ℕ) (lines 
 
 -- the classes' frames are shown to pass
 abbrev pub ClassesShown : Parts → List ℕ → List ℕ → List FrameLine → Type 0
-ClassesShown problem labels order lines = AreShown (frames_of_classes problem labels) order problem.network.nominal_ticks lines
+ClassesShown problem labels order lines = AreShown (frames_of_classes problem problem.items labels) order problem.network.nominal_ticks lines
 
 -- each of the classes' frames passes
 abbrev pub ClassesPass : Parts → List ℕ → List ℕ → Type 0
-ClassesPass problem labels order = (place : ℕ) → place < length order → FramePasses (frames_of_classes problem labels) order place problem.network.nominal_ticks
+ClassesPass problem labels order = (place : ℕ) → place < length order → FramePasses (frames_of_classes problem problem.items labels) order place problem.network.nominal_ticks
 
 -- the answer is the verdict with the load where the lines show it, and else the fault of the timing
 abbrev pub IsTimed : Parts → List ℕ → List ℕ → List FrameLine → Result Verdict CheckFault → Type 0
 IsTimed problem labels order lines (Ok verdict.Placed) = ⊥
-IsTimed problem labels order lines (Ok (verdict.Timed load)) = ClassesShown problem labels order lines × (load ≡ load_of problem labels)
+IsTimed problem labels order lines (Ok (verdict.Timed load)) = ClassesShown problem labels order lines × (load ≡ load_of problem problem.items labels)
 IsTimed problem labels order lines (Ok (verdict.Between best lower)) = ⊥
 IsTimed problem labels order lines (Ok (verdict.Best load)) = ⊥
 IsTimed problem labels order lines (Ok verdict.NoSolution) = ⊥

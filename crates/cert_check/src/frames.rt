@@ -1,8 +1,9 @@
 //! The classes of a grouping as frames of the response-time test.
 ghost use Rattle.std.specs.Prelude.{◌≡◌, ◌<◌, All, IfOk};
 ghost use Rattle.busy_period.specs.Timed.{IsInRange};
-ghost use Rattle.pack_model.specs.Grouping.{IsGrouping, classes_of};
-ghost use Rattle.cert_check.specs.ClassFrames.{timed_of_class, frames_of_classes};
+ghost use Rattle.class_frame.specs.Grouping.{IsGrouping, classes_of};
+ghost use Rattle.cert_check.specs.ClassFrames.{timed_of_class};
+ghost use Rattle.class_frame.specs.Classes.{frames_of_classes};
 
 use crate::size::bytes_of_class;
 use crate::times::times_of_class;
@@ -47,7 +48,7 @@ pub(crate) fn class_frames(
 ) -> Result<Vec<Timed>, Memory>
     requires grouping { IsGrouping problem.now.items labels.now }
     requires classes { classes ≡ classes_of labels.now }
-    ensures value { IfOk result (λ frames. frames.items ≡ frames_of_classes problem.now labels.now) }
+    ensures value { IfOk result (λ frames. frames.items ≡ frames_of_classes problem.now problem.now.items labels.now) }
     ensures in_range { IfOk result (λ frames. All IsInRange frames.items) }
 {
     let mut frames = Vec::new(alloc);

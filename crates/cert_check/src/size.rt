@@ -1,7 +1,7 @@
 //! The bytes of a class, and the greatest length of its frame.
 ghost use Rattle.std.specs.Prelude.{◌≡◌, ◌≤◌, length, All, IfOk, sum_by};
-ghost use Rattle.pack_model.specs.Grouping.{class_of};
-ghost use Rattle.container_pdu.specs.Class.{bytes_of_items, bytes_of_item, ids_of};
+ghost use Rattle.class_frame.specs.Grouping.{class_of};
+ghost use Rattle.class_frame.specs.Frame.{bytes_of_items, bytes_of_item, ids_of};
 
 use container_pdu::header_kind;
 use pack_model::{Item, Memory};

@@ -2,7 +2,7 @@
 ghost use Rattle.std.specs.Prelude.{◌≡◌, ◌<◌, List, [], ◌∷◌, ◌++◌, length, All, slice_get};
 ghost use Rattle.std.specs.List.{filter_map, flat_map};
 ghost use Rattle.pack_model.specs.declared.signal.Signal.{Signal};
-ghost use Rattle.pack_model.specs.Grouping.{class_of};
+ghost use Rattle.class_frame.specs.Grouping.{class_of};
 ghost use Rattle.cert_check.specs.Merged.{Merges};
 
 use pack_model::{Item, Signal};

@@ -3,7 +3,7 @@ ghost use Rattle.std.specs.Prelude.{◌<◌, ℕ, ◌↔◌, IsTrue, length};
 ghost use Rattle.busy_period.specs.Stage.{IsStage};
 ghost use Rattle.response_test.specs.Queueing.{IsBit};
 ghost use Rattle.response_test.specs.Frame.{FramePasses};
-ghost use Rattle.pack_model.specs.Grouping.{IsGrouping};
+ghost use Rattle.class_frame.specs.Grouping.{IsGrouping};
 ghost use Rattle.cert_check.specs.Timing.{AreOrdered, AreShown, IsTimed, PassIfTimed};
 
 use crate::frames::class_frames;

@@ -10,7 +10,7 @@ use Rattle.pack_model.specs.declared.item.Item.{Item}
 use Rattle.container_pdu.specs.declared.header.Header.{Header}
 use Rattle.container_pdu.specs.declared.header.Header.TheVariants.{NoHeader, Short, Long}
 use Rattle.container_pdu.specs.Bytes.{header_of, header_bytes, bytes_of_parts}
-use Rattle.container_pdu.specs.Class.{ids_of, header_of_items, is_pdu, bytes_of_item, bytes_of_items}
+use Rattle.class_frame.specs.Frame.{ids_of, header_of_items, is_pdu, bytes_of_item, bytes_of_items}
 use Rattle.matrix_text.proofs.PartItems.{none_item, bytes_with, at_after}
 
 -- what is added over more elements

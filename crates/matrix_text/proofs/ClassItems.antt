@@ -1,8 +1,8 @@
 -- The elements of a class, and where in the list each of them stands.
 use Rattle.std.proofs.Common.{◌≡◌, ℕ, ◌<◌, ◌⊎◌, Bool, cond, List, [], ◌∷◌, length, filter, take, get_or, nat_eq, suc, zero, inl, inr, refl, sym, ap, ◌∙◌, arith, eq-eqb}
 use Rattle.std.proofs.lemmas.Bool.{cases_eq, ne_eqb}
-use Rattle.pack_model.specs.Grouping.{class_of}
-use Rattle.pack_model.proofs.GroupingLaws.{class_of-cons}
+use Rattle.class_frame.specs.Grouping.{class_of}
+use Rattle.class_frame.proofs.GroupingLaws.{class_of-cons}
 
 -- the element of a number in a class is one of the list, and those before it in the class are those of the list before it
 pub record IsFrom {X : Type 0} (label : ℕ) (labels : List ℕ) (xs : List X) (k : ℕ) : Type 0 where

@@ -12,7 +12,8 @@ use Rattle.pack_model.specs.declared.item.Item.{Item}
 use Rattle.container_pdu.specs.declared.header.Header.{Header}
 use Rattle.container_pdu.specs.declared.header.Header.TheVariants.{NoHeader, Short, Long}
 use Rattle.container_pdu.specs.Bytes.{header_of, header_bytes, bytes_of_parts}
-use Rattle.container_pdu.specs.Class.{ClassStands, ids_of, is_pdu, header_of_items, bytes_of_item, bytes_of_items}
+use Rattle.class_frame.specs.Legal.{ClassStands}
+use Rattle.class_frame.specs.Frame.{ids_of, is_pdu, header_of_items, bytes_of_item, bytes_of_items}
 use Rattle.matrix_text.specs.ClassItems.{bits_of_items, bytes_with}
 
 -- there is an I-PDU where there is an id

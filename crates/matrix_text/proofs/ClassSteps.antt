@@ -7,10 +7,10 @@ use Rattle.std.proofs.lemmas.List.FromFn.{get_or-map-range_with_len, get_or-rang
 use Rattle.std.proofs.lemmas.Option.{slice_get-get_or}
 use Rattle.pack_model.specs.declared.item.Item.{Item}
 use Rattle.pack_model.specs.Problem.{Parts, IsProblem}
-use Rattle.pack_model.specs.Grouping.{class_of, IsOrder}
-use Rattle.pack_model.proofs.GroupingLaws.{All-class_of, class_of-cons, length-order}
+use Rattle.class_frame.specs.Grouping.{class_of, IsOrder}
+use Rattle.class_frame.proofs.GroupingLaws.{All-class_of, class_of-cons, length-order}
 use Rattle.pack_model.proofs.Laws.{tests}
-use Rattle.container_pdu.specs.Class.{ClassStands, IsLegal}
+use Rattle.class_frame.specs.Legal.{ClassStands, IsLegal}
 use Rattle.matrix_text.specs.ClassItems.{items_at, numbers_of_class}
 use Rattle.matrix_text.specs.LaidOut.{rows_of_class}
 use Rattle.matrix_text.proofs.LaidSteps.{length_of_classes}
@@ -75,7 +75,7 @@ pub record ClassNumbers (problem : Parts) (labels : List ℕ) (label : ℕ) (num
   pub stands : ClassStands (items_at problem.items numbers)
 
 -- so are those of the class that the order names at a place, as they are read from the lists of all classes
-pub class_numbers : {X : Type 0} (problem : Parts) (labels order : List ℕ) (vecs : List X) (f : X → List ℕ) (number : ℕ) (v : X) (numbers : List ℕ) → IsProblem problem → IsLegal problem labels → IsOrder labels order
+pub class_numbers : {X : Type 0} (problem : Parts) (labels order : List ℕ) (vecs : List X) (f : X → List ℕ) (number : ℕ) (v : X) (numbers : List ℕ) → IsProblem problem → IsLegal problem.items labels → IsOrder labels order
     → map f vecs ≡ map (numbers_of_class labels) (range_with_len 0 (length order)) → number < length order → v ≡ get_or vecs (get_or order number 0) v → numbers ≡ f v → ClassNumbers problem labels (get_or order number 0) numbers
 class_numbers problem labels order vecs f number v numbers stands legal named lists lt at read =
     let long = length-order labels order named in

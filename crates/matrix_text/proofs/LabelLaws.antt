@@ -9,9 +9,9 @@ use Rattle.std.proofs.lemmas.List.Folds.{list_any_at, Any-from_list_any}
 use Rattle.std.proofs.lemmas.List.FromFn.{length-map-range_with_len, get_or-map-range_with_len, map-range_with_len_more}
 use Rattle.std.proofs.lemmas.List.Sums.{position_or_len_is}
 use Rattle.pack_model.specs.Problem.{distinct}
-use Rattle.pack_model.specs.Grouping.{classes_of}
+use Rattle.class_frame.specs.Grouping.{classes_of}
 use Rattle.pack_model.proofs.Distinct.{distinct-push}
-use Rattle.pack_model.proofs.GroupingLaws.{classes_of-push, label-lt-classes_of}
+use Rattle.class_frame.proofs.GroupingLaws.{classes_of-push, label-lt-classes_of}
 use Rattle.matrix_text.specs.Frames.{label_in}
 
 -- numbers below n that stand for numbers that differ

@@ -7,10 +7,10 @@ use Rattle.std.proofs.lemmas.List.Folds.{list_any_at, Any-from_list_any}
 use Rattle.std.proofs.lemmas.List.FromFn.{length-map-range_with_len, get_or-map-range_with_len}
 use Rattle.std.proofs.lemmas.List.Sums.{passes_at_first}
 use Rattle.pack_model.specs.Problem.{Parts, IsProblem, IsSorted, distinct}
-use Rattle.pack_model.specs.Grouping.{IsOrder, classes_of}
+use Rattle.class_frame.specs.Grouping.{IsOrder, classes_of}
 use Rattle.pack_model.proofs.Laws.{element}
-use Rattle.pack_model.proofs.GroupingLaws.{found_from_count}
-use Rattle.container_pdu.specs.Class.{IsLegal}
+use Rattle.class_frame.proofs.GroupingLaws.{found_from_count}
+use Rattle.class_frame.specs.Legal.{IsLegal}
 use Rattle.matrix_text.specs.Items.{frame_of_item}
 use Rattle.matrix_text.specs.Frames.{identifiers_of, label_in, frames_of, grouping_of, order_of, identifiers}
 use Rattle.matrix_text.specs.LaidOut.{rows_of}
@@ -23,7 +23,7 @@ use Rattle.matrix_text.proofs.RowsFound.{first_place}
 abbrev frame_of : Parts → List ℕ → ℕ → ℕ
 frame_of problem order label = problem.network.first_id + position_or_len (nat_eq label) order
 
-module _ (problem : Parts) (labels order : List ℕ) (stands : IsProblem problem) (sorted : IsSorted problem.signals problem.items) (legal : IsLegal problem labels) (named : IsOrder labels order) where
+module _ (problem : Parts) (labels order : List ℕ) (stands : IsProblem problem) (sorted : IsSorted problem.signals problem.items) (legal : IsLegal problem.items labels) (named : IsOrder labels order) where
   -- the place of a label in the order
   place_in : (label : ℕ) → label < classes_of labels → position_or_len (nat_eq label) order < length order
   place_in label lt = first_place (nat_eq label) order (found_from_count order label (omega (arith, named.once label lt)))

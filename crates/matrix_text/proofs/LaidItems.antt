@@ -9,9 +9,10 @@ use Rattle.std.proofs.lemmas.Option.{slice_get-get_or}
 use Rattle.pack_model.specs.declared.signal.Signal.{Signal}
 use Rattle.pack_model.specs.declared.item.Item.{Item}
 use Rattle.pack_model.specs.Problem.{Parts, IsProblem, IsSorted}
-use Rattle.pack_model.specs.Grouping.{IsOrder, class_of}
+use Rattle.class_frame.specs.Grouping.{IsOrder, class_of}
 use Rattle.pack_model.proofs.ItemFacts.{IsItemOf, items_of_signals, one_item}
-use Rattle.container_pdu.specs.Class.{IsLegal, header_of_items}
+use Rattle.class_frame.specs.Legal.{IsLegal}
+use Rattle.class_frame.specs.Frame.{header_of_items}
 use Rattle.matrix_text.specs.declared.matrix.MatrixRow.{MatrixRow}
 use Rattle.matrix_text.specs.Items.{is_named, name_of_item, frame_of_item, at_of_item, items_in_frame}
 use Rattle.matrix_text.specs.LaidOut.{rows_of}
@@ -33,7 +34,7 @@ place_is labels order named k lt =
         let once : count_by (λ x. nat_eq x (get_or order k 0)) order ≡ 1 = named.once (get_or order k 0) (named.only k 0 lt) in
         omega (arith, once, count_two (λ x. nat_eq x (get_or order k 0)) order j k 0 before lt (eq-eqb (get_or order j 0) (get_or order k 0) same) (eq-eqb (get_or order k 0) (get_or order k 0) refl))
 
-module _ (problem : Parts) (labels order : List ℕ) (stands : IsProblem problem) (sorted : IsSorted problem.signals problem.items) (legal : IsLegal problem labels) (named : IsOrder labels order) where
+module _ (problem : Parts) (labels order : List ℕ) (stands : IsProblem problem) (sorted : IsSorted problem.signals problem.items) (legal : IsLegal problem.items labels) (named : IsOrder labels order) where
   -- where the item of a row is from
   abbrev pub item_from : (row : MatrixRow) (laid : IsLaid problem labels order row) → IsFrom (get_or order laid.place 0) labels problem.items laid.placed.item
   item_from row laid = from_list (get_or order laid.place 0) labels problem.items laid.placed.item laid.placed.within

@@ -11,11 +11,12 @@ use Rattle.pack_model.specs.declared.signal.Signal.{Signal}
 use Rattle.pack_model.specs.declared.item.Item.{Item}
 use Rattle.pack_model.specs.Signal.{same_pdu}
 use Rattle.pack_model.specs.Problem.{Parts, IsProblem, IsSorted}
-use Rattle.pack_model.specs.Grouping.{IsOrder, class_of}
+use Rattle.class_frame.specs.Grouping.{IsOrder, class_of}
 use Rattle.pack_model.proofs.ItemFacts.{pdus_differ}
 use Rattle.container_pdu.specs.declared.header.Header.TheVariants.{NoHeader}
 use Rattle.container_pdu.specs.Bytes.{header_bytes}
-use Rattle.container_pdu.specs.Class.{IsLegal, header_of_items, is_pdu, bytes_of_item, bytes_of_items}
+use Rattle.class_frame.specs.Legal.{IsLegal}
+use Rattle.class_frame.specs.Frame.{header_of_items, is_pdu, bytes_of_item, bytes_of_items}
 use Rattle.fd_length.specs.Size.{fd_size_of}
 use Rattle.frame_ticks.specs.Worst.{worst_ticks_of}
 use Rattle.ipdu_layout.specs.Layout.{IsApart, start_of}
@@ -39,7 +40,7 @@ use Rattle.matrix_text.proofs.LaidSeen.{IsSeen, seen, row_ends, free_part, pdu_b
 not_below : (a b : ℕ) → b ≤ a → nat_lt a b ≡ false
 not_below a b le = grind (arith, le)
 
-module _ (problem : Parts) (labels order : List ℕ) (stands : IsProblem problem) (sorted : IsSorted problem.signals problem.items) (legal : IsLegal problem labels) (named : IsOrder labels order) where
+module _ (problem : Parts) (labels order : List ℕ) (stands : IsProblem problem) (sorted : IsSorted problem.signals problem.items) (legal : IsLegal problem.items labels) (named : IsOrder labels order) where
   -- a row is of a signal of the list
   of_a_signal : (row : MatrixRow) → IsLaid problem labels order row → Any (λ signal. RowOf signal row) problem.signals
   of_a_signal row laid = (

@@ -1,21 +1,23 @@
 -- The rows of a matrix that was laid out are in their ranges.
 use Rattle.std.proofs.Common.{◌≡◌, ℕ, ◌≤◌, List, length, get_or, All, sym, ap, subst, ◌∙◌, arith}
 use Rattle.std.specs.Prelude.{IfSome}
+use Rattle.std.specs.Option.{unwrap_or}
 use Rattle.pack_model.specs.declared.network.Network.{Network}
 use Rattle.pack_model.specs.Network.{NetworkStands}
 use Rattle.pack_model.specs.Signal.{SignalStands}
 use Rattle.pack_model.specs.Problem.{Parts, IsProblem, IsSorted}
-use Rattle.pack_model.specs.Grouping.{IsOrder}
+use Rattle.class_frame.specs.Grouping.{IsOrder}
 use Rattle.pack_model.proofs.Laws.{tests}
-use Rattle.pack_model.proofs.GroupingLaws.{length-order, classes_of-le-length}
-use Rattle.container_pdu.specs.Class.{IsLegal, bytes_of_items}
+use Rattle.class_frame.proofs.GroupingLaws.{length-order, classes_of-le-length}
+use Rattle.class_frame.specs.Legal.{IsLegal}
+use Rattle.class_frame.specs.Frame.{bytes_of_items, size_of_items}
 use Rattle.fd_length.specs.Size.{IsSize}
 use Rattle.fd_length.proofs.Sizes.{IsFdSize-from_value, IsSize-at_most}
 use Rattle.frame_ticks.specs.Worst.{worst_ticks_of}
 use Rattle.frame_ticks.proofs.WorstLaws.{worst_ticks_of-rises}
 use Rattle.matrix_text.specs.declared.matrix.MatrixRow.{MatrixRow}
 use Rattle.matrix_text.specs.Row.{RowInRange}
-use Rattle.matrix_text.specs.LaidOut.{size_of_items, rows_of}
+use Rattle.matrix_text.specs.LaidOut.{rows_of}
 use Rattle.matrix_text.proofs.LaidRows.{class_at, IsLaid, all_laid, in_list}
 use Rattle.matrix_text.proofs.LaidSeen.{seen, ends_in_class, class_sized}
 
@@ -23,14 +25,14 @@ use Rattle.matrix_text.proofs.LaidSeen.{seen, ends_in_class, class_sized}
 few_ticks : (network : Network) (size : ℕ) → NetworkStands network → size ≤ 64 → worst_ticks_of network size ≤ 9999999999
 few_ticks network size stands small = omega (arith, worst_ticks_of-rises network size 64 small, stands.nominal_high, stands.data_high)
 
-module _ (problem : Parts) (labels order : List ℕ) (stands : IsProblem problem) (sorted : IsSorted problem.signals problem.items) (legal : IsLegal problem labels) (named : IsOrder labels order) where
+module _ (problem : Parts) (labels order : List ℕ) (stands : IsProblem problem) (sorted : IsSorted problem.signals problem.items) (legal : IsLegal problem.items labels) (named : IsOrder labels order) where
   -- there are at most 128 frames
   pub few_frames : length order ≤ 128
   few_frames = omega (arith, length-order labels order named, classes_of-le-length problem.items labels legal.grouping, (tests problem stands).few_items)
 
   -- a frame's size is one of the list
-  class_listed : (place : ℕ) → IsSize (size_of_items (class_at problem labels order place))
-  class_listed place = (IsFdSize-from_value (bytes_of_items (class_at problem labels order place)) (size_of_items (class_at problem labels order place)) (class_sized problem labels order stands sorted legal named place)).listed
+  class_listed : (place : ℕ) → IsSize (unwrap_or (size_of_items (class_at problem labels order place)) 0)
+  class_listed place = (IsFdSize-from_value (bytes_of_items (class_at problem labels order place)) (unwrap_or (size_of_items (class_at problem labels order place)) 0) (class_sized problem labels order stands sorted legal named place)).listed
 
   -- the signal of a row is in its range
   signal_stands : (row : MatrixRow) (laid : IsLaid problem labels order row) → SignalStands laid.signal
@@ -48,7 +50,7 @@ module _ (problem : Parts) (labels order : List ℕ) (stands : IsProblem problem
       record {
         id = omega (arith, is.id, in_order, few_frames, stands.network.first_id_high);
         size = subst IsSize (sym is.size) listed;
-        ticks = omega (arith, is.ticks, few_ticks problem.network (size_of_items (class_at problem labels order place)) stands.network (IsSize-at_most (size_of_items (class_at problem labels order place)) listed));
+        ticks = omega (arith, is.ticks, few_ticks problem.network (unwrap_or (size_of_items (class_at problem labels order place)) 0) stands.network (IsSize-at_most (unwrap_or (size_of_items (class_at problem labels order place)) 0) listed));
         pdu = λ id some. subst (λ o. IfSome o (λ x. 1 ≤ x)) (sym (ap (λ (r : MatrixRow). r.pdu) laid.is) ∙ some) signal.pdu_low;
         at = omega (arith, ends, small, is.starts, bits, signal.bits_low);
         start = omega (arith, ends, small, bits, signal.bits_low);

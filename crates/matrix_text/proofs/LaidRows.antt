@@ -12,10 +12,11 @@ use Rattle.std.proofs.lemmas.Option.{slice_get-get_or}
 use Rattle.pack_model.specs.declared.signal.Signal.{Signal}
 use Rattle.pack_model.specs.declared.item.Item.{Item}
 use Rattle.pack_model.specs.Problem.{Parts, IsProblem, IsSorted}
-use Rattle.pack_model.specs.Grouping.{IsOrder, class_of}
+use Rattle.class_frame.specs.Grouping.{IsOrder, class_of}
 use Rattle.pack_model.proofs.Laws.{element}
 use Rattle.pack_model.proofs.ItemFacts.{members_within}
-use Rattle.container_pdu.specs.Class.{IsLegal, header_of_items}
+use Rattle.class_frame.specs.Legal.{IsLegal}
+use Rattle.class_frame.specs.Frame.{header_of_items}
 use Rattle.matrix_text.specs.declared.matrix.MatrixRow.{MatrixRow}
 use Rattle.matrix_text.specs.Items.{is_named}
 use Rattle.matrix_text.specs.LaidOut.{FramePart, figures_of, parts_of_items, signals_at, row_in_part, rows_of_part, rows_of_class, rows_of}
@@ -91,7 +92,7 @@ module _ (problem : Parts) (labels order : List ℕ) (sorted : IsSorted problem.
           All-flat_map (IsLaid problem labels order) (rows_of_part (figures_of problem.network (problem.network.first_id + place) (class_at problem labels order place)) problem.signals) (parts_of_items (class_at problem labels order place))
           (λ k d lt. part_laid place in_order (get_or (parts_of_items (class_at problem labels order place)) k d) (parts_placed (header_of_items (class_at problem labels order place)) (class_at problem labels order place) k d lt))
 
-module _ (problem : Parts) (labels order : List ℕ) (stands : IsProblem problem) (sorted : IsSorted problem.signals problem.items) (legal : IsLegal problem labels) (named : IsOrder labels order) where
+module _ (problem : Parts) (labels order : List ℕ) (stands : IsProblem problem) (sorted : IsSorted problem.signals problem.items) (legal : IsLegal problem.items labels) (named : IsOrder labels order) where
   -- each signal has one row
   pub one_each : (m : ℕ) → m < length problem.signals → count_by (is_named (name_at problem.signals m)) (rows_of problem labels order) ≡ 1
   one_each m lt =

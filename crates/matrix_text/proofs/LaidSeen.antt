@@ -10,17 +10,18 @@ use Rattle.pack_model.specs.declared.signal.Signal.{Signal}
 use Rattle.pack_model.specs.declared.item.Item.{Item}
 use Rattle.pack_model.specs.Signal.{same_pdu}
 use Rattle.pack_model.specs.Problem.{Parts, IsProblem, IsSorted}
-use Rattle.pack_model.specs.Grouping.{IsOrder}
-use Rattle.pack_model.proofs.GroupingLaws.{All-class_of}
+use Rattle.class_frame.specs.Grouping.{IsOrder}
+use Rattle.class_frame.proofs.GroupingLaws.{All-class_of}
 use Rattle.pack_model.proofs.ItemFacts.{members_pdu, members_sender, bits_of_members, bits_of_pdu}
 use Rattle.container_pdu.specs.declared.header.Header.TheVariants.{NoHeader}
-use Rattle.container_pdu.specs.Class.{IsLegal, header_of_items, is_pdu, bytes_of_item, bytes_of_items}
+use Rattle.class_frame.specs.Legal.{IsLegal}
+use Rattle.class_frame.specs.Frame.{header_of_items, is_pdu, bytes_of_item, bytes_of_items, size_of_items}
 use Rattle.fd_length.specs.Size.{fd_size_of}
 use Rattle.fd_length.proofs.Sizes.{fd_size_of-some}
 use Rattle.frame_ticks.specs.Worst.{worst_ticks_of}
 use Rattle.ipdu_layout.specs.Layout.{start_of}
 use Rattle.matrix_text.specs.declared.matrix.MatrixRow.{MatrixRow}
-use Rattle.matrix_text.specs.LaidOut.{signals_at, widths_of, size_of_items}
+use Rattle.matrix_text.specs.LaidOut.{signals_at, widths_of}
 use Rattle.matrix_text.proofs.SumLaws.{sum_by-flat_map, sum_by-same}
 use Rattle.matrix_text.proofs.RowsFound.{name_at}
 use Rattle.matrix_text.proofs.ClassItems.{from_list}
@@ -34,8 +35,8 @@ pub record IsSeen (problem : Parts) (labels order : List ℕ) (place : ℕ) (row
   pub item : ℕ
   pub within : item < length (class_at problem labels order place)
   pub id : row.id ≡ problem.network.first_id + place
-  pub size : row.size ≡ size_of_items (class_at problem labels order place)
-  pub ticks : row.ticks ≡ worst_ticks_of problem.network (size_of_items (class_at problem labels order place))
+  pub size : row.size ≡ unwrap_or (size_of_items (class_at problem labels order place)) 0
+  pub ticks : row.ticks ≡ worst_ticks_of problem.network (unwrap_or (size_of_items (class_at problem labels order place)) 0)
   pub header : row.header ≡ header_of_items (class_at problem labels order place)
   pub begins : row.at ≡ at_after (header_of_items (class_at problem labels order place)) (take item (class_at problem labels order place))
   pub pdu : row.pdu ≡ (get_or (class_at problem labels order place) item none_item).pdu
@@ -50,7 +51,7 @@ pub record IsSeen (problem : Parts) (labels order : List ℕ) (place : ℕ) (row
   pub whole : header_of_items (class_at problem labels order place) ≡ NoHeader → places ≡ flat_map (λ y. y.members) (class_at problem labels order place)
   pub own : (header_of_items (class_at problem labels order place) ≡ NoHeader → ⊥) → places ≡ (get_or (class_at problem labels order place) item none_item).members
 
-module _ (problem : Parts) (labels order : List ℕ) (stands : IsProblem problem) (sorted : IsSorted problem.signals problem.items) (legal : IsLegal problem labels) (named : IsOrder labels order) where
+module _ (problem : Parts) (labels order : List ℕ) (stands : IsProblem problem) (sorted : IsSorted problem.signals problem.items) (legal : IsLegal problem.items labels) (named : IsOrder labels order) where
   -- what a row's signal has of its item
   row_seen : (row : MatrixRow) (laid : IsLaid problem labels order row) → IsSeen problem labels order laid.place row
   row_seen row laid =
@@ -192,7 +193,7 @@ module _ (problem : Parts) (labels order : List ℕ) (stands : IsProblem problem
             )
 
     -- a frame has a size
-    pub class_sized : fd_size_of (bytes_of_items (class_at problem labels order place)) ≡ Some (size_of_items (class_at problem labels order place))
+    pub class_sized : fd_size_of (bytes_of_items (class_at problem labels order place)) ≡ Some (unwrap_or (size_of_items (class_at problem labels order place)) 0)
     class_sized =
         let found = fd_size_of-some (bytes_of_items (class_at problem labels order place)) (legal.classes (get_or order place 0)).small in
         found.1 ∙ ap (λ n. Some n) (sym (ap (λ o. unwrap_or o 0) found.1))

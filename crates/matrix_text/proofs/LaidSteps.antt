@@ -4,8 +4,8 @@ use Rattle.std.specs.List.{range_with_len}
 use Rattle.std.proofs.lemmas.Bool.{cases_eq, ne_eqb}
 use Rattle.std.proofs.lemmas.List.{map-set, get_or-map, length-map, length-set, ext_get_or, get_or-set_same, get_or-set_other}
 use Rattle.std.proofs.lemmas.List.FromFn.{length-map-range_with_len, get_or-map-range_with_len}
-use Rattle.pack_model.specs.Grouping.{class_of}
-use Rattle.pack_model.proofs.GroupingLaws.{class_of-more}
+use Rattle.class_frame.specs.Grouping.{class_of}
+use Rattle.class_frame.proofs.GroupingLaws.{class_of-more}
 
 -- there are as many lists as classes
 pub length_of_classes : {X Y : Type 0} (vecs : List X) (f : X → List Y) (g : ℕ → List Y) (classes : ℕ) → map f vecs ≡ map g (range_with_len 0 classes) → length vecs ≡ classes

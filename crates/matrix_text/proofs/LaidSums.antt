@@ -14,14 +14,15 @@ use Rattle.pack_model.specs.declared.network.Network.{Network}
 use Rattle.pack_model.specs.declared.signal.Signal.{Signal}
 use Rattle.pack_model.specs.declared.item.Item.{Item}
 use Rattle.pack_model.specs.Problem.{Parts, IsSorted}
-use Rattle.pack_model.specs.Grouping.{IsOrder, class_of}
+use Rattle.class_frame.specs.Grouping.{IsOrder, class_of}
 use Rattle.pack_model.proofs.Laws.{element}
-use Rattle.pack_model.proofs.GroupingLaws.{sum_by-classes, labels_once}
+use Rattle.class_frame.proofs.GroupingLaws.{sum_by-classes, labels_once}
 use Rattle.pack_model.proofs.ItemFacts.{each_once}
 use Rattle.container_pdu.specs.declared.header.Header.{Header}
 use Rattle.container_pdu.specs.declared.header.Header.TheVariants.{NoHeader, Short, Long}
 use Rattle.container_pdu.specs.Bytes.{header_bytes}
-use Rattle.container_pdu.specs.Class.{IsLegal, header_of_items, bytes_of_item}
+use Rattle.class_frame.specs.Legal.{IsLegal}
+use Rattle.class_frame.specs.Frame.{header_of_items, bytes_of_item}
 use Rattle.matrix_text.specs.declared.matrix.MatrixRow.{MatrixRow}
 use Rattle.matrix_text.specs.LaidOut.{FrameFigures, FramePart, figures_of, parts_from, parts_with, parts_of_items, signals_at, widths_of, row_with, row_in_part, rows_of_part, rows_of_items, rows_of_class, rows_of}
 use Rattle.matrix_text.proofs.SumLaws.{sum_by-map, sum_by-flat_map, sum_by-enumerate}
@@ -128,7 +129,7 @@ module _ (v : Signal → ℕ) (signals : List Signal) where
         ∙ sum_parts (header_of_items items) items
 
 -- sums over the rows of a matrix are sums over the signals
-pub sum_rows : (problem : Parts) (labels order : List ℕ) → IsSorted problem.signals problem.items → IsLegal problem labels → IsOrder labels order → (v : Signal → ℕ) (w : MatrixRow → ℕ)
+pub sum_rows : (problem : Parts) (labels order : List ℕ) → IsSorted problem.signals problem.items → IsLegal problem.items labels → IsOrder labels order → (v : Signal → ℕ) (w : MatrixRow → ℕ)
     → ((frame : FrameFigures) (at start : ℕ) (s : Signal) → w (row_with frame at start s) ≡ v s) → sum_by w (rows_of problem labels order) ≡ sum_by v problem.signals
 sum_rows problem labels order sorted legal named v w same =
     sum_by-flat_map w (rows_of_class problem labels) (enumerate_from 0 order)

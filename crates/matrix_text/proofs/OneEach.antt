@@ -9,11 +9,12 @@ use Rattle.std.proofs.lemmas.List.FromFn.{length-range_with_len, get_or-range_wi
 use Rattle.std.proofs.lemmas.List.Sums.{sum_by-cons}
 use Rattle.pack_model.specs.declared.item.Item.{Item}
 use Rattle.pack_model.specs.Problem.{Parts, IsProblem}
-use Rattle.pack_model.specs.Grouping.{classes_of, class_of, IsOrder}
-use Rattle.pack_model.proofs.GroupingLaws.{class_of-cons}
+use Rattle.class_frame.specs.Grouping.{classes_of, class_of, IsOrder}
+use Rattle.class_frame.proofs.GroupingLaws.{class_of-cons}
 use Rattle.pack_model.proofs.ItemFacts.{small_items}
 use Rattle.container_pdu.specs.Bytes.{bytes_of_parts}
-use Rattle.container_pdu.specs.Class.{ClassStands, IsLegal, bytes_of_item, bytes_of_items}
+use Rattle.class_frame.specs.Legal.{ClassStands, IsLegal}
+use Rattle.class_frame.specs.Frame.{bytes_of_item, bytes_of_items}
 use Rattle.matrix_text.proofs.InOrder.{count_here}
 
 -- numbers in a row have as many classes as the last of them says
@@ -91,7 +92,7 @@ small_class items (inr (item, few, one)) = subst ClassStands (sym one) (record {
 })
 
 -- the grouping is legal
-pub one_each_legal : (problem : Parts) → IsProblem problem → IsLegal problem (range_with_len 0 (length problem.items))
+pub one_each_legal : (problem : Parts) → IsProblem problem → IsLegal problem.items (range_with_len 0 (length problem.items))
 one_each_legal problem stands = record {
   grouping = record {
     each = length-range_with_len 0 (length problem.items);

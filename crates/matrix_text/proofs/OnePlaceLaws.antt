@@ -5,7 +5,7 @@ use Rattle.std.proofs.lemmas.List.{get_or_default}
 use Rattle.fd_length.proofs.Sizes.{IsFdSize-from_value, fd_size_of-none}
 use Rattle.pack_model.specs.Problem.{Parts, IsProblem, IsSorted}
 use Rattle.container_pdu.specs.declared.header.Header.TheVariants.{NoHeader}
-use Rattle.container_pdu.specs.Class.{bytes_of_items}
+use Rattle.class_frame.specs.Frame.{bytes_of_items}
 use Rattle.matrix_text.specs.declared.matrix.MatrixRow.{MatrixRow}
 use Rattle.matrix_text.specs.Items.{items_in_frame}
 use Rattle.matrix_text.specs.Placed.{Placed, OneRow}

@@ -8,7 +8,7 @@ use Rattle.pack_model.specs.declared.item.Item.{Item}
 use Rattle.container_pdu.specs.declared.header.Header.{Header}
 use Rattle.container_pdu.specs.declared.header.Header.TheVariants.{NoHeader, Short, Long}
 use Rattle.container_pdu.specs.Bytes.{header_bytes}
-use Rattle.container_pdu.specs.Class.{bytes_of_item}
+use Rattle.class_frame.specs.Frame.{bytes_of_item}
 use Rattle.matrix_text.specs.LaidOut.{FramePart, parts_from, parts_with}
 use Rattle.matrix_text.proofs.SumLaws.{All-flat_map}
 

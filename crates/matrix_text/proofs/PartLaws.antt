@@ -10,7 +10,7 @@ use Rattle.pack_model.proofs.PlacedLaws.{Contains-filter}
 use Rattle.container_pdu.specs.declared.header.Header.{Header}
 use Rattle.container_pdu.specs.declared.header.Header.TheVariants.{NoHeader, Short, Long}
 use Rattle.container_pdu.specs.Bytes.{header_bytes}
-use Rattle.container_pdu.specs.Class.{header_of_items, bytes_of_item, bytes_of_items}
+use Rattle.class_frame.specs.Frame.{header_of_items, bytes_of_item, bytes_of_items}
 use Rattle.matrix_text.specs.declared.matrix.MatrixRow.{MatrixRow}
 use Rattle.matrix_text.specs.Items.{frame_of_item, at_of_item, items_in_frame}
 use Rattle.matrix_text.specs.Placed.{OneRow, part_bytes, bytes_before}

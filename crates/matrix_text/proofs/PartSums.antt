@@ -8,7 +8,7 @@ use Rattle.std.proofs.lemmas.List.Sums.{sum_by-cons, sum-map}
 use Rattle.pack_model.specs.declared.item.Item.{Item}
 use Rattle.container_pdu.specs.declared.header.Header.TheVariants.{NoHeader, Short, Long}
 use Rattle.container_pdu.specs.Bytes.{header_bytes}
-use Rattle.container_pdu.specs.Class.{ids_of, header_of_items, bytes_of_item, bytes_of_items}
+use Rattle.class_frame.specs.Frame.{ids_of, header_of_items, bytes_of_item, bytes_of_items}
 use Rattle.matrix_text.proofs.Tallies.{some_pdu}
 
 module _ {X : Type 0} (f : X → ℕ) where

@@ -11,7 +11,8 @@ use Rattle.pack_model.proofs.ItemFacts.{bits_of_members, members_within, small_i
 use Rattle.container_pdu.specs.declared.header.Header.{Header}
 use Rattle.container_pdu.specs.declared.header.Header.TheVariants.{NoHeader, Short, Long}
 use Rattle.container_pdu.specs.Bytes.{header_bytes}
-use Rattle.container_pdu.specs.Class.{ClassStands, bytes_of_item, header_of_items}
+use Rattle.class_frame.specs.Legal.{ClassStands}
+use Rattle.class_frame.specs.Frame.{bytes_of_item, header_of_items}
 use Rattle.matrix_text.specs.ClassItems.{bits_of_items, bytes_with, places_of_items}
 use Rattle.matrix_text.specs.LaidOut.{FramePart, parts_from, parts_of_items, parts_with, signals_at, widths_of}
 use Rattle.matrix_text.proofs.ClassLaws.{few_bits, few_under_headers}

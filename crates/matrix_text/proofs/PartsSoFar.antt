@@ -10,7 +10,7 @@ use Rattle.pack_model.specs.Problem.{Parts}
 use Rattle.container_pdu.specs.declared.header.Header.{Header}
 use Rattle.container_pdu.specs.declared.header.Header.TheVariants.{NoHeader, Short, Long}
 use Rattle.container_pdu.specs.Bytes.{header_bytes}
-use Rattle.container_pdu.specs.Class.{bytes_of_item}
+use Rattle.class_frame.specs.Frame.{bytes_of_item}
 use Rattle.matrix_text.specs.declared.matrix.MatrixRow.{MatrixRow}
 use Rattle.matrix_text.specs.Items.{frame_of_item, at_of_item}
 use Rattle.matrix_text.specs.Tables.{parts_before, bytes_under}

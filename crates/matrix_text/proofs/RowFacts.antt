@@ -3,7 +3,7 @@ use Rattle.std.proofs.Common.{◌≡◌, ℕ, ◌+◌, ◌*◌, ◌≤◌, List,
 use Rattle.fd_length.specs.Size.{fd_size_of}
 use Rattle.pack_model.specs.Problem.{Parts}
 use Rattle.container_pdu.specs.Bytes.{header_bytes}
-use Rattle.container_pdu.specs.Class.{header_of_items, bytes_of_items}
+use Rattle.class_frame.specs.Frame.{header_of_items, bytes_of_items}
 use Rattle.matrix_text.specs.declared.fits.PartFigures.{PartFigures}
 use Rattle.matrix_text.specs.declared.matrix.MatrixRow.{MatrixRow}
 use Rattle.matrix_text.specs.Items.{items_in_frame}

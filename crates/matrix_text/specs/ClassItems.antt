@@ -2,10 +2,10 @@
 use Rattle.std.specs.Prelude.{ℕ, ◌+◌, List, length, sum_by, slice_get}
 use Rattle.std.specs.List.{filter_map, flat_map, range_with_len}
 use Rattle.pack_model.specs.declared.item.Item.{Item}
-use Rattle.pack_model.specs.Grouping.{class_of}
+use Rattle.class_frame.specs.Grouping.{class_of}
 use Rattle.container_pdu.specs.declared.header.Header.{Header}
 use Rattle.container_pdu.specs.Bytes.{header_bytes}
-use Rattle.container_pdu.specs.Class.{bytes_of_item}
+use Rattle.class_frame.specs.Frame.{bytes_of_item}
 use Rattle.matrix_text.specs.declared.frame.Frame.{Frame}
 use Rattle.matrix_text.specs.LaidOut.{FrameFigures}
 

@@ -5,14 +5,13 @@ use Rattle.pack_model.specs.declared.network.Network.{Network}
 use Rattle.pack_model.specs.declared.signal.Signal.{Signal}
 use Rattle.pack_model.specs.declared.item.Item.{Item}
 use Rattle.pack_model.specs.Problem.{Parts}
-use Rattle.pack_model.specs.Grouping.{class_of}
-use Rattle.fd_length.specs.Size.{fd_size_of}
+use Rattle.class_frame.specs.Grouping.{class_of}
 use Rattle.frame_ticks.specs.Worst.{worst_ticks_of}
 use Rattle.ipdu_layout.specs.Layout.{start_of}
 use Rattle.container_pdu.specs.declared.header.Header.{Header}
 use Rattle.container_pdu.specs.declared.header.Header.TheVariants.{NoHeader, Short, Long}
 use Rattle.container_pdu.specs.Bytes.{header_bytes}
-use Rattle.container_pdu.specs.Class.{header_of_items, bytes_of_item, bytes_of_items}
+use Rattle.class_frame.specs.Frame.{header_of_items, bytes_of_item, size_of_items}
 use Rattle.matrix_text.specs.declared.matrix.MatrixRow.{MatrixRow}
 
 -- the signals at these list places
@@ -30,16 +29,12 @@ pub record FrameFigures : Type 0 where
   pub ticks : ℕ
   pub header : Header
 
--- the data length of the frame of items
-abbrev pub size_of_items : List Item → ℕ
-size_of_items items = unwrap_or (fd_size_of (bytes_of_items items)) 0
-
 -- the figures of the frame of items with an identifier
 abbrev pub figures_of : Network → ℕ → List Item → FrameFigures
 figures_of network id items = record {
   id = id;
-  size = size_of_items items;
-  ticks = worst_ticks_of network (size_of_items items);
+  size = unwrap_or (size_of_items items) 0;
+  ticks = worst_ticks_of network (unwrap_or (size_of_items items) 0);
   header = header_of_items items;
 }
 

@@ -9,7 +9,7 @@ use Rattle.ipdu_layout.specs.declared.place.Place.{Place}
 use Rattle.ipdu_layout.specs.Layout.{IsApart, bytes_of}
 use Rattle.container_pdu.specs.declared.header.Header.TheVariants.{NoHeader}
 use Rattle.container_pdu.specs.Bytes.{header_bytes}
-use Rattle.container_pdu.specs.Class.{header_of_items, bytes_of_item, bytes_of_items}
+use Rattle.class_frame.specs.Frame.{header_of_items, bytes_of_item, bytes_of_items}
 use Rattle.matrix_text.specs.declared.matrix.MatrixRow.{MatrixRow}
 use Rattle.matrix_text.specs.Items.{is_named, at_of_item, items_in_frame}
 

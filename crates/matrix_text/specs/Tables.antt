@@ -11,7 +11,7 @@ use Rattle.ipdu_layout.specs.declared.place.Place.{Place}
 use Rattle.container_pdu.specs.declared.header.Header.{Header}
 use Rattle.container_pdu.specs.declared.header.Header.TheVariants.{NoHeader}
 use Rattle.container_pdu.specs.Bytes.{header_bytes}
-use Rattle.container_pdu.specs.Class.{header_of_items, bytes_of_item, ids_of}
+use Rattle.class_frame.specs.Frame.{header_of_items, bytes_of_item, ids_of}
 use Rattle.matrix_text.specs.declared.matrix.MatrixRow.{MatrixRow}
 use Rattle.matrix_text.specs.declared.fits.PartFigures.{PartFigures}
 use Rattle.matrix_text.specs.declared.tally.Tally.{Tally}

@@ -1,6 +1,7 @@
 //! What the items of one class are together.
 ghost use Rattle.std.specs.Prelude.{◌≡◌, ◌≤◌, ◌<◌, All, IfOk, length, map};
-ghost use Rattle.container_pdu.specs.Class.{bytes_of_item, bytes_of_items, ids_of, ClassStands};
+ghost use Rattle.class_frame.specs.Frame.{bytes_of_item, bytes_of_items, ids_of};
+ghost use Rattle.class_frame.specs.Legal.{ClassStands};
 ghost use Rattle.matrix_text.specs.ClassItems.{bits_of_items, items_at, places_of_items};
 
 use container_pdu::container_bytes;

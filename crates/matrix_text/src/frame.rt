@@ -1,7 +1,7 @@
 //! What the rows of one frame share.
 ghost use Rattle.std.specs.Prelude.{◌≡◌, ◌≤◌, ◌<◌, All, IfOk, length};
 ghost use Rattle.pack_model.specs.Network.{NetworkStands};
-ghost use Rattle.container_pdu.specs.Class.{ClassStands};
+ghost use Rattle.class_frame.specs.Legal.{ClassStands};
 ghost use Rattle.matrix_text.specs.ClassItems.{figures, items_at};
 ghost use Rattle.matrix_text.specs.LaidOut.{figures_of, row_with};
 

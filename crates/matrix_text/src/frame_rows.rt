@@ -2,7 +2,7 @@
 ghost use Rattle.std.specs.Prelude.{◌≡◌, ◌≤◌, ◌<◌, ◌+◌, ◌*◌, ◌++◌, All, IfOk, OnOk, length, sum};
 ghost use Rattle.std.specs.List.{flat_map};
 ghost use Rattle.pack_model.specs.Signal.{SignalStands};
-ghost use Rattle.container_pdu.specs.Class.{ClassStands};
+ghost use Rattle.class_frame.specs.Legal.{ClassStands};
 ghost use Rattle.matrix_text.specs.ClassItems.{bytes_with, figures, items_at};
 ghost use Rattle.matrix_text.specs.LaidOut.{figures_of, parts_from, rows_of_items, rows_of_part, signals_at, widths_of};
 

@@ -1,8 +1,8 @@
 //! The communication matrix of a grouping.
 ghost use Rattle.std.specs.Prelude.{◌≡◌, IfOk, length};
 ghost use Rattle.std.specs.List.{range_with_len};
-ghost use Rattle.pack_model.specs.Grouping.{IsOrder};
-ghost use Rattle.container_pdu.specs.Class.{IsLegal};
+ghost use Rattle.class_frame.specs.Grouping.{IsOrder};
+ghost use Rattle.class_frame.specs.Legal.{IsLegal};
 ghost use Rattle.pack_model.specs.Problem.{IsProblem, IsSorted};
 ghost use Rattle.matrix_text.specs.Frames.{grouping_of, order_of};
 ghost use Rattle.matrix_text.specs.LaidOut.{rows_of, rows_one_each};
@@ -26,7 +26,7 @@ pub fn matrix_of(
     labels: &[u32],
     order: &[u32],
 ) -> Result<Matrix, Memory>
-    requires legal { IsLegal problem.now labels.now }
+    requires legal { IsLegal problem.now.items labels.now }
     requires order { IsOrder labels.now order.now }
     ensures rows { IfOk result (λ matrix. matrix ≡ rows_of problem.now labels.now order.now) }
     ensures placed { IfOk result (λ matrix. Placed problem.now matrix) }
@@ -63,7 +63,7 @@ fn laid_rows(
     labels: &[u32],
     order: &[u32],
 ) -> Result<Vec<MatrixRow>, Memory>
-    requires legal { IsLegal problem.now labels.now }
+    requires legal { IsLegal problem.now.items labels.now }
     requires order { IsOrder labels.now order.now }
     ensures rows { IfOk result (λ rows. rows.items ≡ rows_of problem.now labels.now order.now) }
     ensures problem { IsProblem problem.now }

@@ -1,7 +1,7 @@
 //! What the items of one frame are together.
 ghost use Rattle.std.specs.Prelude.{◌≡◌, ◌≤◌, ◌<◌, ◌+◌, ◌*◌, ◌++◌, ℕ, List, [], ◌∷◌, All};
 ghost use Rattle.pack_model.specs.declared.item.Item.{Item};
-ghost use Rattle.container_pdu.specs.Class.{header_of_items, bytes_of_items};
+ghost use Rattle.class_frame.specs.Frame.{header_of_items, bytes_of_items};
 ghost use Rattle.matrix_text.specs.Items.{items_in_frame};
 ghost use Rattle.matrix_text.specs.Row.{RowInRange};
 ghost use Rattle.matrix_text.specs.Tables.{HasRows, IsTally, TallyWithin, is_short};

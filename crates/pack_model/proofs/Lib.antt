@@ -2,8 +2,6 @@ pub mod BySender
 pub mod Clashes
 pub mod Classes
 pub mod Distinct
-pub mod GroupingLaws
-mod GroupingValues
 pub mod Groups
 pub mod ItemFacts
 pub mod ItemSteps

@@ -1,5 +1,3 @@
-pub mod ClassTimes
-pub mod Grouping
 pub mod Items
 pub mod Name
 pub mod Network

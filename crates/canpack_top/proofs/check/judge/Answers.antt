@@ -6,7 +6,7 @@ use Rattle.cert_text.specs.declared.parts.Kind.{Kind}
 use Rattle.cert_text.specs.declared.parts.Kind.TheVariants.{KindPlaced, KindTimed, KindBetween, KindBest, KindNoSolution}
 use Rattle.cert_text.specs.Parts.{HasText}
 use Rattle.cert_check.specs.Accept.{AllPass, IsFound, IsJudged}
-use Rattle.cert_check.specs.ClassFrames.{load_of}
+use Rattle.class_frame.specs.Classes.{load_of}
 use Rattle.cert_check.specs.declared.verdict.Verdict.TheVariants as verdict
 use Rattle.canpack_top.specs.Check.{IsLineOf, Judged, PassingOfKind, load_in}
 use Rattle.canpack_top.specs.Line.{timed_line}
@@ -24,7 +24,7 @@ pub check_cert-requires : goal.check_cert-requires
 check_cert-requires c = record { kind = judged c.args.cert.now.kind c.requires }
 
 -- the line of a certificate of kind `timed` has its load and the common period
-timed_is_line : (judged : Judged) (load hyper : ℕ) → judged.cert.kind ≡ KindTimed → load ≡ load_of judged.problem (grouping_of judged.problem judged.matrix) → hyper ≡ judged.problem.hyper
+timed_is_line : (judged : Judged) (load hyper : ℕ) → judged.cert.kind ≡ KindTimed → load ≡ load_of judged.problem judged.problem.items (grouping_of judged.problem judged.matrix) → hyper ≡ judged.problem.hyper
     → IsLineOf (timed_line load hyper) judged
 unfolding load_in
 timed_is_line judged load hyper kind is common = rw (kind, is, common) refl

@@ -3,7 +3,7 @@ use Rattle.std.specs.Prelude.{Result, Ok, Err}
 use Rattle.std.specs.List.{IsDistinct}
 use Rattle.std.proofs.lemmas.List.{take-append-le, take_all}
 use Rattle.pack_model.specs.Problem.{Parts}
-use Rattle.pack_model.specs.Grouping.{classes_of, IsGrouping}
+use Rattle.class_frame.specs.Grouping.{classes_of, IsGrouping}
 use Rattle.matrix_text.specs.declared.matrix.MatrixRow.{MatrixRow}
 use Rattle.matrix_text.specs.Frames.{frames_of, grouping_of, order_of}
 use Rattle.cert_check.specs.Timing.{AreOrdered, PassIfTimed}

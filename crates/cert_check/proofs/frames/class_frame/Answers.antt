@@ -3,13 +3,13 @@ use Rattle.std.specs.List.{filter_map, flat_map}
 use Rattle.busy_period.specs.Timed.{IsInRange}
 use Rattle.busy_period.specs.declared.timed.Timed.{Timed}
 use Rattle.pack_model.specs.declared.item.Item.{Item}
-use Rattle.pack_model.specs.Grouping.{class_of}
-use Rattle.pack_model.specs.ClassTimes.{signals_of_class}
+use Rattle.class_frame.specs.Grouping.{class_of}
+use Rattle.cert_check.specs.ClassFrames.{signals_of_class}
 use Rattle.pack_model.proofs.Laws.{tests}
 use Rattle.pack_model.proofs.ItemFacts.{members_within, small_items}
 use Rattle.fd_length.specs.Size.{fd_size_of}
 use Rattle.frame_ticks.specs.Worst.{worst_ticks_of}
-use Rattle.container_pdu.specs.Class.{bytes_of_items}
+use Rattle.class_frame.specs.Frame.{bytes_of_items}
 use Rattle.cert_check.specs.ClassFrames.{timed_of_class}
 use Rattle.cert_check.specs.Merged.{Merges}
 use Rattle.cert_check.proofs.Ranges.{merged_times, class_in_range}

@@ -1,5 +1,5 @@
 use Rattle.std.proofs.Common.{◌≡◌, ◌≤◌, ◌*◌, take, sum_by}
-use Rattle.pack_model.specs.Grouping.{class_of}
+use Rattle.class_frame.specs.Grouping.{class_of}
 use Rattle.cert_check.proofs.size.bits_of_class.Given as goal
 
 -- the bits of the class among the items so far, at most 512 an item

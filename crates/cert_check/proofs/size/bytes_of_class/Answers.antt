@@ -4,11 +4,11 @@ use Rattle.std.specs.Int.{div_ceil}
 use Rattle.std.proofs.Math.Nat.{mul-le-mul}
 use Rattle.std.proofs.lemmas.Bool.{eqb-true, eqb-false}
 use Rattle.std.proofs.lemmas.List.{nil_from_length}
-use Rattle.pack_model.specs.Grouping.{class_of}
+use Rattle.class_frame.specs.Grouping.{class_of}
 use Rattle.container_pdu.specs.declared.header.Header.{Header}
 use Rattle.container_pdu.specs.declared.header.Header.TheVariants.{NoHeader, Short, Long}
 use Rattle.container_pdu.specs.Bytes.{header_bytes, header_of}
-use Rattle.container_pdu.specs.Class.{ids_of}
+use Rattle.class_frame.specs.Frame.{ids_of}
 use Rattle.cert_check.proofs.Bytes.{bytes_free, bytes_parts, few_ids}
 use Rattle.cert_check.proofs.size.bytes_of_class.Goals as goal
 

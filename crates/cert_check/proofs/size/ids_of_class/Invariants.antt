@@ -1,6 +1,6 @@
 use Rattle.std.proofs.Common.{◌≡◌, take}
-use Rattle.pack_model.specs.Grouping.{class_of}
-use Rattle.container_pdu.specs.Class.{ids_of}
+use Rattle.class_frame.specs.Grouping.{class_of}
+use Rattle.class_frame.specs.Frame.{ids_of}
 use Rattle.cert_check.proofs.size.ids_of_class.Given as goal
 
 -- the ids of the class among the items so far

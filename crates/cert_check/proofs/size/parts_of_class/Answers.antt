@@ -1,7 +1,7 @@
 use Rattle.std.proofs.Common.{ℕ, ◌≤◌, ◌+◌, ap, ◌∙◌, arith}
 use Rattle.std.specs.Int.{div_ceil}
 use Rattle.pack_model.specs.declared.item.Item.{Item}
-use Rattle.container_pdu.specs.Class.{bytes_of_item}
+use Rattle.class_frame.specs.Frame.{bytes_of_item}
 use Rattle.cert_check.proofs.ClassSteps.{sum_taken, sum_passed}
 use Rattle.cert_check.proofs.size.parts_of_class.Goals as goal
 use Rattle.cert_check.proofs.size.parts_of_class.Goals.{then-labels-number, else-labels-number}

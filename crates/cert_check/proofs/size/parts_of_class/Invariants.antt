@@ -1,6 +1,6 @@
 use Rattle.std.proofs.Common.{◌≡◌, ◌≤◌, ◌*◌, take, sum_by}
-use Rattle.pack_model.specs.Grouping.{class_of}
-use Rattle.container_pdu.specs.Class.{bytes_of_item}
+use Rattle.class_frame.specs.Grouping.{class_of}
+use Rattle.class_frame.specs.Frame.{bytes_of_item}
 use Rattle.cert_check.proofs.size.parts_of_class.Given as goal
 
 -- the bytes of the class's items among those so far, at most 64 an item

@@ -1,7 +1,7 @@
 use Rattle.std.proofs.Common.{◌+◌, sym, subst, slice_get, ◌++◌, take, arith}
 use Rattle.std.specs.List.{filter_map, flat_map}
 use Rattle.pack_model.specs.declared.item.Item.{Item}
-use Rattle.pack_model.specs.Grouping.{class_of}
+use Rattle.class_frame.specs.Grouping.{class_of}
 use Rattle.cert_check.specs.Merged.{Merges}
 use Rattle.cert_check.proofs.Merging.{joined_taken, joined_passed}
 use Rattle.cert_check.proofs.times.times_of_class.Goals as goal

@@ -1,6 +1,6 @@
 use Rattle.std.proofs.Common.{slice_get, take}
 use Rattle.std.specs.List.{filter_map, flat_map}
-use Rattle.pack_model.specs.Grouping.{class_of}
+use Rattle.class_frame.specs.Grouping.{class_of}
 use Rattle.cert_check.specs.Merged.{Merges}
 use Rattle.cert_check.proofs.times.times_of_class.Given as goal
 

@@ -4,7 +4,7 @@ use Rattle.std.proofs.lemmas.Grind.{div_ceil_times}
 use Rattle.std.proofs.lemmas.List.{length-map}
 use Rattle.std.proofs.lemmas.List.Elements.{All-map}
 use Rattle.container_pdu.specs.Bytes.{bytes_of_parts}
-use Rattle.container_pdu.specs.Class.{bytes_of_item, ids_of}
+use Rattle.class_frame.specs.Frame.{bytes_of_item, ids_of}
 use Rattle.matrix_text.specs.ClassItems.{items_at}
 use Rattle.matrix_text.proofs.ClassLaws.{any_is_ids, bytes_of_free, bytes_of_pdus, length-ids_of_class}
 use Rattle.matrix_text.proofs.Picked.{All-pick, length-pick}

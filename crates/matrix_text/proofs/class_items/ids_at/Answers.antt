@@ -2,7 +2,7 @@ use Rattle.std.proofs.Common.{◌≡◌, ℕ, Option, None, Some, refl, Vec, Glo
 use Rattle.std.specs.List.{cons_option}
 use Rattle.std.proofs.lemmas.List.Elements.{filter_map-append}
 use Rattle.pack_model.specs.declared.item.Item.{Item}
-use Rattle.container_pdu.specs.Class.{ids_of}
+use Rattle.class_frame.specs.Frame.{ids_of}
 use Rattle.matrix_text.specs.ClassItems.{items_at}
 use Rattle.matrix_text.proofs.Picked.{pick-more}
 use Rattle.matrix_text.proofs.class_items.ids_at.Goals.{in-Some+in_ok-push, in_default}

@@ -1,5 +1,5 @@
 use Rattle.std.proofs.Common.{◌≡◌, take}
-use Rattle.container_pdu.specs.Class.{ids_of}
+use Rattle.class_frame.specs.Frame.{ids_of}
 use Rattle.matrix_text.specs.ClassItems.{items_at}
 use Rattle.matrix_text.proofs.class_items.ids_at.Given as goal
 

@@ -1,6 +1,6 @@
 use Rattle.std.proofs.Common.{ap, ◌∙◌, sym, arith, ◌++◌, ◌∷◌, [], map, take}
 use Rattle.std.proofs.lemmas.List.{map_push}
-use Rattle.container_pdu.specs.Class.{bytes_of_item}
+use Rattle.class_frame.specs.Frame.{bytes_of_item}
 use Rattle.matrix_text.specs.ClassItems.{items_at}
 use Rattle.matrix_text.proofs.Picked.{pick-more}
 use Rattle.matrix_text.proofs.class_items.lengths_at.Goals as goal

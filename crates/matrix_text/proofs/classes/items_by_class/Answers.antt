@@ -3,7 +3,7 @@ use Rattle.std.specs.List.{range_with_len}
 use Rattle.std.proofs.lemmas.List.{take_all}
 use Rattle.std.proofs.lemmas.List.FromFn.{get_or-range_with_len, length-range_with_len}
 use Rattle.std.proofs.lemmas.Simd.{splat_is_map}
-use Rattle.pack_model.specs.Grouping.{class_of}
+use Rattle.class_frame.specs.Grouping.{class_of}
 use Rattle.matrix_text.proofs.LaidSteps.{lists_more, length_of_classes}
 use Rattle.matrix_text.proofs.classes.items_by_class.Goals as goal
 

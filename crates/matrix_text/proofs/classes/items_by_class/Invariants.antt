@@ -1,6 +1,6 @@
 use Rattle.std.proofs.Common.{◌≡◌, length, map, take}
 use Rattle.std.specs.List.{range_with_len}
-use Rattle.pack_model.specs.Grouping.{class_of}
+use Rattle.class_frame.specs.Grouping.{class_of}
 use Rattle.matrix_text.proofs.classes.items_by_class.Given as goal
 
 abbrev pub invariant-loop-number : goal.invariant-loop-number

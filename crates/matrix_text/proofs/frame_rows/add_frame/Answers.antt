@@ -1,7 +1,7 @@
 use Rattle.std.proofs.Common.{◌≡◌, ◌<◌, ◌++◌, All, OnOk, length, sum, sym, ap, ◌∙◌, arith, subst, append-nil}
 use Rattle.std.specs.List.{flat_map}
 use Rattle.container_pdu.specs.declared.header.Header.TheVariants.{NoHeader}
-use Rattle.container_pdu.specs.Class.{header_of_items}
+use Rattle.class_frame.specs.Frame.{header_of_items}
 use Rattle.matrix_text.specs.ClassItems.{bytes_with, figures, items_at, places_of_items}
 use Rattle.matrix_text.specs.LaidOut.{FrameFigures, figures_of, parts_with, parts_from, rows_of_part, signals_at, widths_of}
 use Rattle.matrix_text.proofs.ClassLaws.{few_under_headers}

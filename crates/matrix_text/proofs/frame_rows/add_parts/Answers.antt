@@ -3,7 +3,7 @@ use Rattle.std.specs.List.{flat_map}
 use Rattle.std.proofs.lemmas.List.Sums.{sum_by-cons}
 use Rattle.pack_model.specs.declared.item.Item.{Item}
 use Rattle.container_pdu.specs.Bytes.{header_bytes}
-use Rattle.container_pdu.specs.Class.{bytes_of_item}
+use Rattle.class_frame.specs.Frame.{bytes_of_item}
 use Rattle.matrix_text.specs.ClassItems.{bytes_with, figures, items_at}
 use Rattle.matrix_text.specs.LaidOut.{parts_from, rows_of_part, signals_at, widths_of}
 use Rattle.matrix_text.proofs.PartsFit.{ItemFits, items_fit, part_room}

@@ -4,10 +4,10 @@ use Rattle.std.proofs.lemmas.List.{get_or_default, take_all}
 use Rattle.std.proofs.lemmas.List.FromFn.{length-enumerate_from}
 use Rattle.pack_model.specs.declared.item.Item.{Item}
 use Rattle.pack_model.specs.declared.network.Network.{Network}
-use Rattle.pack_model.proofs.GroupingLaws.{label-lt-classes_of, length-order}
+use Rattle.class_frame.proofs.GroupingLaws.{label-lt-classes_of, length-order}
 use Rattle.pack_model.proofs.ItemFacts.{small_items}
 use Rattle.pack_model.proofs.Laws.{tests}
-use Rattle.container_pdu.specs.Class.{ClassStands}
+use Rattle.class_frame.specs.Legal.{ClassStands}
 use Rattle.matrix_text.specs.ClassItems.{items_at, numbers_of_class}
 use Rattle.matrix_text.specs.LaidOut.{FrameFigures, rows_of_class, rows_of_items}
 use Rattle.matrix_text.proofs.ClassSteps.{class_numbers, rows_more}

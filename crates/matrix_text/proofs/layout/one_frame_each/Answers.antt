@@ -1,8 +1,8 @@
 use Rattle.std.proofs.Common.{◌≡◌, length, sym, ap, subst, ◌∙◌, arith, IfOk}
 use Rattle.std.specs.List.{range_with_len}
-use Rattle.pack_model.specs.Grouping.{IsOrder}
+use Rattle.class_frame.specs.Grouping.{IsOrder}
 use Rattle.pack_model.proofs.Laws.{tests}
-use Rattle.container_pdu.specs.Class.{IsLegal}
+use Rattle.class_frame.specs.Legal.{IsLegal}
 use Rattle.matrix_text.specs.Frames.{grouping_of, order_of}
 use Rattle.matrix_text.specs.LaidOut.{rows_of}
 use Rattle.matrix_text.proofs.OneEach.{one_each_legal, one_each_order}
@@ -14,7 +14,7 @@ overflow_cast-items c = omega (arith, ap length c.items.ensures.items, (tests c.
 pub matrix_of-requires-clause-legal : goal.matrix_of-requires-clause-legal
 matrix_of-requires-clause-legal c =
     let numbers : c.as_slice.result.now ≡ range_with_len 0 (length c.args.problem.now.items) = c.as_slice.ensures.value ∙ c.in_ok-numbers.ensures ∙ ap (λ items. range_with_len 0 (length items)) c.items.ensures.items in
-    subst (IsLegal c.args.problem.now) (sym numbers) (one_each_legal c.args.problem.now c.items.ensures.problem)
+    subst (IsLegal c.args.problem.now.items) (sym numbers) (one_each_legal c.args.problem.now c.items.ensures.problem)
 
 pub matrix_of-requires-clause-order : goal.matrix_of-requires-clause-order
 matrix_of-requires-clause-order c =

@@ -1,6 +1,6 @@
 -- Worked values of the definitions of groupings.
 use Rattle.std.proofs.Common.{◌≡◌, ℕ, [], ◌∷◌, refl}
-use Rattle.pack_model.specs.Grouping.{classes_of, class_of}
+use Rattle.class_frame.specs.Grouping.{classes_of, class_of}
 
 two_classes : classes_of (0 ∷ 0 ∷ 1 ∷ []) ≡ 2
 two_classes = refl

@@ -9,7 +9,7 @@ use Rattle.std.proofs.lemmas.Map.Steps.{length-le_from_distinct_below, le-length
 use Rattle.std.proofs.lemmas.List.{map-append, take_more, take_all, get_or_default}
 use Rattle.std.proofs.lemmas.List.Elements.{filter-append, All-nil, All-cons, All-head, All-tail, recursion_from_All}
 use Rattle.pack_model.specs.declared.item.Item.{Item}
-use Rattle.pack_model.specs.Grouping.{classes_of, class_of, IsGrouping, IsOrder}
+use Rattle.class_frame.specs.Grouping.{classes_of, class_of, IsGrouping, IsOrder}
 
 -- one more pair
 pub zip-push : {X : Type 0} (labels : List ℕ) (xs : List X) (label : ℕ) (x : X) → length labels ≡ length xs → zip (labels ++ label ∷ []) (xs ++ x ∷ []) ≡ zip labels xs ++ (label, x) ∷ []

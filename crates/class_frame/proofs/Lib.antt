@@ -1,0 +1,2 @@
+pub mod GroupingLaws
+mod GroupingValues

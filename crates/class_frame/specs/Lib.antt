@@ -1,0 +1,4 @@
+pub mod Classes
+pub mod Frame
+pub mod Grouping
+pub mod Legal
