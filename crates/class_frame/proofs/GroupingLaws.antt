@@ -194,3 +194,41 @@ length-order labels order stands =
 -- each label is counted once in an order
 pub labels_once : (labels order : List ℕ) → IsOrder labels order → All (λ label. count_by (λ x. nat_eq x label) order ≡ 1) labels
 labels_once labels order stands = λ k d lt. stands.once (get_or labels k d) (rw (get_or_default labels k d 0 lt) (label-lt-classes_of labels k lt))
+
+-- labels by first use below the number of classes of the first ones are used by these
+used_in_front : (labels : List ℕ) → ((k : ℕ) → k < length labels → get_or labels k 0 ≤ classes_of (take k labels)) → (n : ℕ) → n ≤ length labels → (label : ℕ) → label < classes_of (take n labels) → (k : ℕ) × (k < n) × (get_or labels k 0 ≡ label)
+used_in_front labels first zero within label low = absurd (omega arith)
+used_in_front labels first (suc n) within label low = by (cases_lt label (classes_of (take n labels))) (λ before. used_in_front labels first n (omega arith) label before)
+  where
+    step : classes_of (take (suc n) labels) ≡ max (classes_of (take n labels)) (get_or labels n 0 + 1)
+    step = ap (λ m. classes_of (take m labels)) (sym (add-one n)) ∙ ap classes_of (take_more labels n 0 (omega arith)) ∙ classes_of-push (take n labels) (get_or labels n 0)
+
+    by : (label < classes_of (take n labels)) ⊎ (classes_of (take n labels) ≤ label) → (label < classes_of (take n labels) → (k : ℕ) × (k < n) × (get_or labels k 0 ≡ label)) → (k : ℕ) × (k < suc n) × (get_or labels k 0 ≡ label)
+    by (inl before) earlier = let (k, lt, at) = earlier before in (k, omega arith, at)
+    by (inr new) earlier = (n, omega arith, omega (arith, first n (omega arith), step, low, new))
+
+-- each label below the number of classes is used
+pub used : (labels : List ℕ) → ((k : ℕ) → k < length labels → get_or labels k 0 ≤ classes_of (take k labels)) → (label : ℕ) → label < classes_of labels → (k : ℕ) × (k < length labels) × (get_or labels k 0 ≡ label)
+used labels first label low = used_in_front labels first (length labels) (omega arith) label (omega (arith, low, ap classes_of (take_all (length labels) labels (omega arith))))
+
+-- a label that is used has an element
+pub class_of-some : {X : Type 0} (label : ℕ) (labels : List ℕ) (xs : List X) (k : ℕ) → k < length labels → k < length xs → get_or labels k 0 ≡ label → 1 ≤ length (class_of label labels xs)
+class_of-some label [] xs k lt within at = absurd (omega arith)
+class_of-some label (l ∷ ls) [] k lt within at = absurd (omega arith)
+class_of-some label (l ∷ ls) (x ∷ xs) zero lt within at =
+    omega (arith, ap length (class_of-cons label l ls x xs ∙ ap (λ b. cond b (x ∷ class_of label ls xs) (class_of label ls xs)) (eq-eqb l label at)))
+class_of-some {X} label (l ∷ ls) (x ∷ xs) (suc k) lt within at = by (nat_eq l label) (class_of-some label ls xs k (omega arith) (omega arith) at)
+  where
+    by : (b : Bool) → 1 ≤ length (class_of label ls xs) → 1 ≤ length (map (λ (e : ℕ × X). e.1) (cond b ((l, x) ∷ filter (λ e. nat_eq e.0 label) (zip ls xs)) (filter (λ e. nat_eq e.0 label) (zip ls xs))))
+    by true rest = omega arith
+    by false rest = rest
+
+-- there are no more elements in a class than in all
+pub length-class_of : {X : Type 0} (k : ℕ) (labels : List ℕ) (xs : List X) → length (class_of k labels xs) ≤ length xs
+length-class_of k [] xs = omega arith
+length-class_of k (label ∷ labels) [] = omega arith
+length-class_of {X} k (label ∷ labels) (x ∷ xs) = by (nat_eq label k) (length-class_of k labels xs)
+  where
+    by : (b : Bool) → length (class_of k labels xs) ≤ length xs → length (map (λ (e : ℕ × X). e.1) (cond b ((label, x) ∷ filter (λ e. nat_eq e.0 k) (zip labels xs)) (filter (λ e. nat_eq e.0 k) (zip labels xs)))) ≤ length (x ∷ xs)
+    by true rest = omega arith
+    by false rest = omega arith

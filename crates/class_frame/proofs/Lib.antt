@@ -1,2 +1,11 @@
+pub mod Bytes
+pub mod Folds
 pub mod GroupingLaws
 mod GroupingValues
+pub mod Harder
+pub mod Headers
+pub mod Joining
+pub mod Ranges
+pub mod Small
+pub mod Standing
+pub mod Used

@@ -1,2 +1,15 @@
 //! A class of items as a frame: legal groupings, and the bytes, size, weight, times, ticks and load of a class.
+//!
+//! The one contract that upper crates use is that of [`Sums`]: the sums of two lists of items, one after the other, are
+//! the join of their sums, and the sums of a class say what its frame is. Nothing here takes memory.
 #![tactic(auto)]
+
+mod laws;
+mod sums;
+mod times;
+
+pub use laws::{bit_within, frame_in_range, more_is_harder, period_divides};
+pub use sums::Sums;
+
+#[cfg(test)]
+mod tests;
