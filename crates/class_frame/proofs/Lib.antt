@@ -8,4 +8,5 @@ pub mod Joining
 pub mod Ranges
 pub mod Small
 pub mod Standing
+pub mod Tables
 pub mod Used

@@ -4,10 +4,12 @@
 //! the join of their sums, and the sums of a class say what its frame is. Nothing here takes memory.
 #![tactic(auto)]
 
+mod classes;
 mod laws;
 mod sums;
 mod times;
 
+pub use classes::{MAX_CLASSES, class_sums};
 pub use laws::{bit_within, frame_in_range, more_is_harder, period_divides};
 pub use sums::Sums;
 
