@@ -4,21 +4,21 @@ use Rattle.std.specs.List.{range_with_len}
 use Rattle.std.proofs.lemmas.List.Elements.{All-map}
 use Rattle.std.proofs.lemmas.List.FromFn.{length-map-range_with_len}
 use Rattle.pack_model.specs.Problem.{Parts, IsProblem}
-use Rattle.class_frame.specs.Grouping.{classes_of, IsGrouping}
+use Rattle.class_frame.specs.Grouping.{classes_of, class_of, IsGrouping}
 use Rattle.pack_model.proofs.Laws.{tests}
 use Rattle.class_frame.proofs.GroupingLaws.{classes_of-le-length}
 use Rattle.busy_period.specs.declared.timed.Timed.{Timed}
 use Rattle.busy_period.specs.Timed.{IsInRange}
 use Rattle.busy_period.specs.Stage.{IsStage}
 use Rattle.response_test.specs.Queueing.{IsBit}
-use Rattle.cert_check.specs.ClassFrames.{timed_of_class}
 use Rattle.class_frame.specs.Classes.{frames_of_classes}
+use Rattle.class_frame.specs.Frame.{timed_of_items}
+use Rattle.class_frame.proofs.Ranges.{bit_within}
 use Rattle.cert_check.specs.Timing.{AreOrdered}
-use Rattle.cert_check.proofs.Ranges.{bit_within}
 
 -- there are as many frames as classes
 count_frames : (problem : Parts) (labels : List ℕ) (frames : List Timed) → frames ≡ frames_of_classes problem problem.items labels → length frames ≡ classes_of labels
-count_frames problem labels frames is = ap length is ∙ length-map-range_with_len (timed_of_class problem labels) 0 (classes_of labels)
+count_frames problem labels frames is = ap length is ∙ length-map-range_with_len (λ label. timed_of_items problem (class_of label labels problem.items)) 0 (classes_of labels)
 
 -- at most 128
 pub few_frames : (problem : Parts) (labels : List ℕ) (frames : List Timed) → IsProblem problem → IsGrouping problem.items labels → frames ≡ frames_of_classes problem problem.items labels → length frames ≤ 128
@@ -41,5 +41,5 @@ pub bit : (problem : Parts) (labels : List ℕ) (frames : List Timed) → frames
 bit problem labels frames is time some most = record {
   some = some;
   within = subst (All (λ (frame : Timed). time ≤ frame.ticks)) (sym is)
-      (All-map (λ (frame : Timed). time ≤ frame.ticks) (timed_of_class problem labels) (range_with_len 0 (classes_of labels)) (λ k d lt. omega (arith, most, bit_within problem labels (get_or (range_with_len 0 (classes_of labels)) k d))));
+      (All-map (λ (frame : Timed). time ≤ frame.ticks) (λ label. timed_of_items problem (class_of label labels problem.items)) (range_with_len 0 (classes_of labels)) (λ k d lt. omega (arith, most, bit_within problem (class_of (get_or (range_with_len 0 (classes_of labels)) k d) labels problem.items))));
 }

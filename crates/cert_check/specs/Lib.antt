@@ -1,4 +1,2 @@
 pub mod Accept
-pub mod ClassFrames
-pub mod Merged
 pub mod Timing

@@ -9,8 +9,6 @@
 mod check;
 mod frames;
 mod load;
-mod size;
-mod times;
 mod timing;
 mod verdict;
 
