@@ -1,3 +1,2 @@
-pub mod LabelLaws
 pub mod Stages
 pub mod Lines

@@ -168,28 +168,34 @@ distinct_from_counts (k ∷ order) few =
     apart : (i d : ℕ) → i < length order → nat_eq k (get_or order i d) ≡ false
     apart i d lt = by (nat_eq k (get_or order i d)) i d lt refl
 
--- an order has as many labels as there are classes
-pub length-order : (labels order : List ℕ) → IsOrder labels order → length order ≡ classes_of labels
-length-order labels order stands =
-    let n = classes_of labels in
-    let below : (q : ℕ) → list_any (nat_eq q) order ≡ true → q < classes_of labels = λ q found. below_all q (Any-from_list_any (nat_eq q) order found) in
-    let few : (q : ℕ) → count_by (λ x. nat_eq x q) order ≤ 1 = λ q. at_most q (cases_lt q (classes_of labels)) below in
-    let most = length-le_from_distinct_below order (classes_of labels) (distinct_from_counts order few) below in
-    let least = le-length_from_below order (classes_of labels) (λ q lt. found_from_count order q (omega (arith, stands.once q lt))) in
-    omega arith
+-- what an order names is below the number of classes
+order_below : (labels order : List ℕ) → IsOrder labels order → (q : ℕ) → list_any (nat_eq q) order ≡ true → q < classes_of labels
+order_below labels order stands q found = by (Any-from_list_any (nat_eq q) order found)
   where
-    below_all : (q : ℕ) → Any (λ x. nat_eq q x ≡ true) order → q < classes_of labels
-    below_all q (i, x, lt, at, e) =
+    by : Any (λ x. nat_eq q x ≡ true) order → q < classes_of labels
+    by (i, x, lt, at, e) =
         let same : q ≡ x = eqb-true q x e in
         omega (arith, stands.only i x lt, at)
 
-    at_most : (q : ℕ) → (q < classes_of labels) ⊎ (classes_of labels ≤ q) → ((p : ℕ) → list_any (nat_eq p) order ≡ true → p < classes_of labels) → count_by (λ x. nat_eq x q) order ≤ 1
-    at_most q (inl lt) below = omega (arith, stands.once q lt)
-    at_most q (inr ge) below = by (cases_lt 0 (count_by (λ x. nat_eq x q) order))
-      where
-        by : (0 < count_by (λ x. nat_eq x q) order) ⊎ (count_by (λ x. nat_eq x q) order ≤ 0) → count_by (λ x. nat_eq x q) order ≤ 1
-        by (inl some) = absurd (omega (arith, below q (found_from_count order q (omega arith))))
-        by (inr none) = omega arith
+-- an order names each number at most once
+named_at_most_once : (labels order : List ℕ) → IsOrder labels order → (q : ℕ) → count_by (λ x. nat_eq x q) order ≤ 1
+named_at_most_once labels order stands q = by (cases_lt q (classes_of labels)) (cases_lt 0 (count_by (λ x. nat_eq x q) order))
+  where
+    by : (q < classes_of labels) ⊎ (classes_of labels ≤ q) → (0 < count_by (λ x. nat_eq x q) order) ⊎ (count_by (λ x. nat_eq x q) order ≤ 0) → count_by (λ x. nat_eq x q) order ≤ 1
+    by (inl lt) _ = omega (arith, stands.once q lt)
+    by (inr ge) (inr none) = omega arith
+    by (inr ge) (inl some) = absurd (omega (arith, order_below labels order stands q (found_from_count order q (omega arith))))
+
+-- an order names different labels
+pub distinct-order : (labels order : List ℕ) → IsOrder labels order → IsDistinct nat_eq order
+distinct-order labels order stands = distinct_from_counts order (named_at_most_once labels order stands)
+
+-- an order has as many labels as there are classes
+pub length-order : (labels order : List ℕ) → IsOrder labels order → length order ≡ classes_of labels
+length-order labels order stands =
+    let most = length-le_from_distinct_below order (classes_of labels) (distinct-order labels order stands) (order_below labels order stands) in
+    let least = le-length_from_below order (classes_of labels) (λ q lt. found_from_count order q (omega (arith, stands.once q lt))) in
+    omega arith
 
 -- each label is counted once in an order
 pub labels_once : (labels order : List ℕ) → IsOrder labels order → All (λ label. count_by (λ x. nat_eq x label) order ≡ 1) labels

@@ -10,7 +10,7 @@ use Rattle.pack_model.proofs.ItemFacts.{IsItemOf, items_of_signals, small_items}
 use Rattle.pack_model.proofs.Laws.{element}
 use Rattle.matrix_text.specs.declared.matrix.MatrixRow.{MatrixRow}
 use Rattle.matrix_text.specs.Items.{is_named, name_of_item, frame_of_item, at_of_item}
-use Rattle.matrix_text.specs.Frames.{identifiers_of, frames_of, grouping_of, label_in}
+use Rattle.matrix_text.specs.Frames.{identifiers_of, frame_identifiers, grouping_of, label_in}
 use Rattle.matrix_text.specs.Tables.{FirstFound, HasRows}
 use Rattle.matrix_text.proofs.RowsFound.{name_at, name_is}
 use Rattle.matrix_text.proofs.Numbering.{find_first}
@@ -71,10 +71,10 @@ small_at problem stands items same number item lt at =
     subst (λ (i : Item). i.bits ≤ 512) (sym at) (subst (All (λ (i : Item). i.bits ≤ 512)) (sym same) (small_items problem stands) number item lt)
 
 -- one more label
-pub labels_more : (problem : Parts) (rows : List MatrixRow) (labels : List ℕ) (number label id : ℕ) → number < length problem.items → number < length labels → get_or (identifiers_of problem rows) number 0 ≡ id → label ≡ label_in (frames_of problem rows) id
+pub labels_more : (problem : Parts) (rows : List MatrixRow) (labels : List ℕ) (number label id : ℕ) → number < length problem.items → number < length labels → get_or (identifiers_of problem rows) number 0 ≡ id → label ≡ label_in (frame_identifiers problem rows) id
     → take number labels ≡ take number (grouping_of problem rows) → take (number + 1) (set labels number label) ≡ take (number + 1) (grouping_of problem rows)
 labels_more problem rows labels number label id lt room at is so_far =
     let in_ids : number < length (identifiers_of problem rows) = simp length-map lt in
     let in_labels : number < length (grouping_of problem rows) = simp length-map lt in
-    let here : get_or (grouping_of problem rows) number 0 ≡ label = get_or-map (label_in (frames_of problem rows)) (identifiers_of problem rows) number 0 0 in_ids ∙ ap (label_in (frames_of problem rows)) at ∙ sym is in
+    let here : get_or (grouping_of problem rows) number 0 ≡ label = get_or-map (label_in (frame_identifiers problem rows)) (identifiers_of problem rows) number 0 0 in_ids ∙ ap (label_in (frame_identifiers problem rows)) at ∙ sym is in
     take_more_set labels number label room ∙ ap (λ l. l ++ label ∷ []) so_far ∙ sym (take_more (grouping_of problem rows) number 0 in_labels ∙ ap (λ n. take number (grouping_of problem rows) ++ n ∷ []) here)

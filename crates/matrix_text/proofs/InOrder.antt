@@ -39,22 +39,6 @@ AllDifferent-distinct [] = tt
 AllDifferent-distinct (x ∷ xs) =
     (any-filter_same (nat_eq x) (λ y. not (nat_eq x y)) false (λ k same. ap not same) (distinct nat_eq xs), AllDifferent-filter (λ y. not (nat_eq x y)) (distinct nat_eq xs) (AllDifferent-distinct xs))
 
--- of two tests that never both pass, one or the other passes as often as they do together
-count_either : (p q : ℕ → Bool) → ((i : ℕ) → p i ≡ true → q i ≡ false) → (xs : List ℕ) → count_by (λ i. p i || q i) xs ≡ count_by p xs + count_by q xs
-count_either p q apart [] = refl
-count_either p q apart (x ∷ xs) = by (p x) refl (count_either p q apart xs)
-  where
-    by : (b : Bool) → p x ≡ b → count_by (λ i. p i || q i) xs ≡ count_by p xs + count_by q xs → count_by (λ i. p i || q i) (x ∷ xs) ≡ count_by p (x ∷ xs) + count_by q (x ∷ xs)
-    by true e ih =
-        let both : cond {A = ℕ} (p x || q x) 1 0 ≡ 1 = ap (λ b. cond (b || q x) 1 0) e in
-        let one : cond {A = ℕ} (p x) 1 0 ≡ 1 = ap (λ b. cond b 1 0) e in
-        let other : cond {A = ℕ} (q x) 1 0 ≡ 0 = ap (λ b. cond b 1 0) (apart x e) in
-        omega (arith, counted (λ i. p i || q i) x xs, counted p x xs, counted q x xs, both, one, other, ih)
-    by false e ih =
-        let both : cond {A = ℕ} (p x || q x) 1 0 ≡ cond (q x) 1 0 = ap (λ b. cond (b || q x) 1 0) e in
-        let one : cond {A = ℕ} (p x) 1 0 ≡ 0 = ap (λ b. cond b 1 0) e in
-        omega (arith, counted (λ i. p i || q i) x xs, counted p x xs, counted q x xs, both, one, ih)
-
 -- each number below n stands once among them
 pub count_here : (n x : ℕ) → x < n → count_by (λ i. nat_eq i x) (range_with_len 0 n) ≡ 1
 count_here n x lt =
@@ -62,21 +46,6 @@ count_here n x lt =
     count_only (λ i. nat_eq i x) (range_with_len 0 n) x within
     (λ d. ap (λ i. nat_eq i x) (get_or-range_with_len 0 n x d lt) ∙ eq-eqb (0 + x) x (omega arith))
     (λ k d below differ. let low : k < n = simp length-range_with_len at below in ap (λ i. nat_eq i x) (get_or-range_with_len 0 n k d low) ∙ ne_eqb (0 + k) x (λ e. differ (omega arith)))
-
--- as many numbers below n are in the list as it has elements, where they differ and are below n
-pub count_in : (n : ℕ) (xs : List ℕ) → AllDifferent xs → All (λ x. x < n) xs → length (filter (λ i. list_any (nat_eq i) xs) (range_with_len 0 n)) ≡ length xs
-count_in n xs different low = length-filter (λ i. list_any (nat_eq i) xs) (range_with_len 0 n) ∙ counts xs different low
-  where
-    none : (ys : List ℕ) → count_by (λ (i : ℕ). false) ys ≡ 0
-    none [] = refl
-    none (y ∷ ys) = omega (arith, counted (λ (i : ℕ). false) y ys, none ys)
-
-    counts : (ys : List ℕ) → AllDifferent ys → All (λ x. x < n) ys → count_by (λ i. list_any (nat_eq i) ys) (range_with_len 0 n) ≡ length ys
-    counts [] d l = none (range_with_len 0 n)
-    counts (y ∷ ys) d l =
-        let here : y < n = All-head (λ x. x < n) y ys l in
-        let apart : (i : ℕ) → nat_eq i y ≡ true → list_any (nat_eq i) ys ≡ false = λ i e. ap (λ j. list_any (nat_eq j) ys) (eqb-true i y e) ∙ d.0 in
-        omega (arith, count_either (λ i. nat_eq i y) (λ i. list_any (nat_eq i) ys) apart (range_with_len 0 n), count_here n y here, counts ys d.1 (All-tail (λ x. x < n) y ys l))
 
 -- where all rows are in range, so is each row that is found
 pub found_low : (p : MatrixRow → Bool) (rows : List MatrixRow) → All (λ row. row.id ≤ 2047) rows → option_map_or (λ (row : MatrixRow). row.id) (find p rows) 0 ≤ 2047

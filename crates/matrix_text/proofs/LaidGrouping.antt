@@ -12,7 +12,7 @@ use Rattle.pack_model.proofs.Laws.{element}
 use Rattle.class_frame.proofs.GroupingLaws.{found_from_count}
 use Rattle.class_frame.specs.Legal.{IsLegal}
 use Rattle.matrix_text.specs.Items.{frame_of_item}
-use Rattle.matrix_text.specs.Frames.{identifiers_of, label_in, frames_of, grouping_of, order_of, identifiers}
+use Rattle.matrix_text.specs.Frames.{identifiers_of, label_in, frame_identifiers, grouping_of, order_of, identifiers}
 use Rattle.matrix_text.specs.LaidOut.{rows_of}
 use Rattle.matrix_text.proofs.LabelLaws.{labels_again, distinct_labels, label_is, filter_middle}
 use Rattle.matrix_text.proofs.LaidItems.{frame_of_laid, place_is}
@@ -51,7 +51,7 @@ module _ (problem : Parts) (labels order : List ℕ) (stands : IsProblem problem
           ∙ sym (get_or-map (frame_of problem order) labels i 0 0 (omega (arith, lt, legal.grouping.each)))
 
   -- the frames are those of the classes
-  the_frames : frames_of problem (rows_of problem labels order) ≡ map (frame_of problem order) (range_with_len 0 (classes_of labels))
+  the_frames : frame_identifiers problem (rows_of problem labels order) ≡ map (frame_of problem order) (range_with_len 0 (classes_of labels))
   the_frames = ap (distinct nat_eq) all_frames ∙ distinct_labels (frame_of problem order) (classes_of labels) frames_apart labels legal.grouping.by_first_use refl
 
   pub laid_grouping : grouping_of problem (rows_of problem labels order) ≡ labels

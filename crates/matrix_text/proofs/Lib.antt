@@ -6,6 +6,8 @@ pub mod ClassSteps
 pub mod Counts
 pub mod FirstRows
 pub mod FrameSteps
+pub mod FoundLegal
+pub mod FrameLabels
 pub mod FramesFound
 pub mod InOrder
 pub mod InUse

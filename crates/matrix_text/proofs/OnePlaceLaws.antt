@@ -49,7 +49,7 @@ module _ (problem : Parts) (stands : IsProblem problem) (sorted : IsSorted probl
 
   pub OnePlace-from_Placed : Placed problem rows → OnePlace problem rows
   OnePlace-from_Placed placed = record {
-    each = placed.one_row.each;
+    one_row = placed.one_row;
     inside = within_size;
     apart = λ i j d before within id position first second. placed.no_overlap i j d before within (first.frame ∙ sym second.frame) position first.takes second.takes;
     clear = λ i d lt j e lt2 id position first second. outside i (get_or rows i d) lt (get_or_default rows i d (get_or rows i d) lt) (fits i d lt) (get_or rows j e) (fits j e lt2) id position first second;

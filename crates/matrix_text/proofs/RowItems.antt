@@ -6,7 +6,8 @@ use Rattle.std.proofs.lemmas.Bool.{cases_eq, cases_lt, cases_order}
 use Rattle.std.proofs.lemmas.List.{get_or_default}
 use Rattle.pack_model.specs.declared.signal.Signal.{Signal}
 use Rattle.pack_model.specs.declared.item.Item.{Item}
-use Rattle.pack_model.specs.Problem.{Parts, IsProblem, IsSorted}
+use Rattle.std.specs.Str.{bytes_eq}
+use Rattle.pack_model.specs.Problem.{Parts, IsProblem, IsSorted, senders_of}
 use Rattle.pack_model.proofs.ItemFacts.{IsItemOf, items_of_signals, members_pdu, alone}
 use Rattle.pack_model.proofs.Laws.{element}
 use Rattle.matrix_text.specs.declared.matrix.MatrixRow.{MatrixRow}
@@ -59,6 +60,7 @@ pub record RowOfItem (problem : Parts) (rows : List MatrixRow) (item : Item) (ro
   pub id : frame_of_item problem rows item ≡ row.id
   pub begins : at_of_item problem rows item ≡ row.at
   pub pdu : item.pdu ≡ row.pdu
+  pub sender : item.sender ≡ position_or_len (bytes_eq row.sender) (senders_of problem.signals)
 
 -- the item of a row's signal, which is in the row's frame and part
 pub record ItemOfRow (problem : Parts) (rows : List MatrixRow) (row : MatrixRow) (item : Item) : Type 0 where
@@ -113,8 +115,21 @@ module _ (problem : Parts) (stands : IsProblem problem) (sorted : IsSorted probl
       let pdus = subst (λ (i : Item). All (λ m. (d : Signal) → (get_or problem.signals m d).pdu ≡ i.pdu) i.members) (sym at) (members_pdu problem.signals problem.items sorted n item lt) in
       let some : 0 < length item.members = omega (arith, ap length of.members) in
       let pdu : (get_or problem.signals of.place of.signal).pdu ≡ item.pdu = ap (λ m. (get_or problem.signals m of.signal).pdu) (sym first) ∙ pdus 0 0 some of.signal in
-      let says : row.pdu ≡ (get_or problem.signals of.place of.signal).pdu = ap (λ (r : MatrixRow). r.pdu) is ∙ (row_says of.place of.signal row of.within).pdu in
-      (row, record { number = slice_index row_of of.place; within = (has of.place of.within).0; at = is; id = placed.id; begins = placed.at; pdu = sym pdu ∙ sym says }, ap (slice_index row_of) (sym first))
+      let says = row_says of.place of.signal row of.within in
+      (
+        row,
+        record {
+          number = slice_index row_of of.place;
+          within = (has of.place of.within).0;
+          at = is;
+          id = placed.id;
+          begins = placed.at;
+          pdu = sym pdu ∙ sym (ap (λ (r : MatrixRow). r.pdu) is ∙ says.pdu);
+          sender = ap (λ (i : Item). i.sender) of.is
+              ∙ ap (λ name. position_or_len (bytes_eq name) (senders_of problem.signals)) (ap (λ (s : Signal). s.sender) of.at ∙ sym (ap (λ (r : MatrixRow). r.sender) is ∙ says.sender));
+        },
+        ap (slice_index row_of) (sym first),
+      )
 
   pub item_of_row : AllPairs SamePart rows → (k : ℕ) (row : MatrixRow) → k < length rows → row ≡ get_or rows k row → (item : Item) × ItemOfRow problem rows row item
   item_of_row parts k row lt at =

@@ -13,13 +13,13 @@ identifiers_of problem rows = map (frame_of_item problem rows) problem.items
 abbrev pub label_in : List ℕ → ℕ → ℕ
 label_in firsts id = position_or_len (nat_eq id) firsts
 
--- the identifiers of the frames, by their items' order
-abbrev pub frames_of : Parts → List MatrixRow → List ℕ
-frames_of problem rows = distinct nat_eq (identifiers_of problem rows)
+-- the identifiers of the frames, each once, by their first item
+abbrev pub frame_identifiers : Parts → List MatrixRow → List ℕ
+frame_identifiers problem rows = distinct nat_eq (identifiers_of problem rows)
 
 -- each item's label: items have one label where they have one frame, and labels are numbered by first use
 abbrev pub grouping_of : Parts → List MatrixRow → List ℕ
-grouping_of problem rows = map (label_in (frames_of problem rows)) (identifiers_of problem rows)
+grouping_of problem rows = map (label_in (frame_identifiers problem rows)) (identifiers_of problem rows)
 
 -- all identifiers of base frames, as ISO 11898-1 has them
 unfoldable pub identifiers : List ℕ
@@ -27,4 +27,4 @@ identifiers = range_with_len 0 2048
 
 -- the labels of the frames by ascending identifier
 abbrev pub order_of : Parts → List MatrixRow → List ℕ
-order_of problem rows = map (label_in (frames_of problem rows)) (filter (λ id. list_any (nat_eq id) (frames_of problem rows)) identifiers)
+order_of problem rows = map (label_in (frame_identifiers problem rows)) (filter (λ id. list_any (nat_eq id) (frame_identifiers problem rows)) identifiers)

@@ -1,7 +1,7 @@
 //! The numbers of frames.
 ghost use Rattle.std.specs.Prelude.{◌≡◌, ◌≤◌, All, length, slice_index, slice_index_or, take};
 ghost use Rattle.pack_model.specs.Problem.{IsProblem, IsSorted};
-ghost use Rattle.matrix_text.specs.Frames.{frames_of, grouping_of};
+ghost use Rattle.matrix_text.specs.Frames.{frame_identifiers, grouping_of};
 ghost use Rattle.matrix_text.specs.Row.{RowInRange};
 ghost use Rattle.matrix_text.specs.Tables.{FirstFound, HasRows, HasLabels, in_use};
 
@@ -23,7 +23,7 @@ pub fn number_frames(
     requires rows { HasRows problem.now.signals rows.now row_of.now }
     requires labels { length labels.old ≡ length problem.now.items }
     ensures labels { labels.new ≡ grouping_of problem.now rows.now }
-    ensures table { HasLabels (frames_of problem.now rows.now) result }
+    ensures table { HasLabels (frame_identifiers problem.now rows.now) result }
     ensures long { length result ≡ 2048 }
     ensures problem { IsProblem problem.now × IsSorted problem.now.signals problem.now.items }
 {

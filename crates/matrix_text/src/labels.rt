@@ -1,6 +1,8 @@
 //! Whether a matrix is placed, and the grouping and the order of its frames.
 ghost use Rattle.std.specs.Prelude.{◌≡◌, ◌≤◌, length, take, IsNone, OnSome, IfSome};
-ghost use Rattle.matrix_text.specs.Frames.{frames_of, grouping_of, order_of};
+ghost use Rattle.class_frame.specs.Grouping.{IsOrder, classes_of};
+ghost use Rattle.class_frame.specs.Legal.{IsLegal};
+ghost use Rattle.matrix_text.specs.Frames.{grouping_of, order_of};
 ghost use Rattle.matrix_text.specs.OnePlace.{OnePlace};
 ghost use Rattle.matrix_text.specs.Placed.{Placed};
 
@@ -13,8 +15,9 @@ use crate::signal_rows::find_rows;
 use pack_model::Problem;
 
 /// The grouping of a placed matrix: its number of frames, each item's label in `labels`, and the
-/// frames' labels by ascending identifier at the front of `order`. None exactly where the matrix is
-/// not placed; then both slices may hold any numbers. It takes no memory.
+/// frames' labels by ascending identifier at the front of `order`. The grouping is legal, and the
+/// order names each class once. None exactly where the matrix is not placed; then both slices may
+/// hold any numbers. It takes no memory.
 pub fn labels_of(
     problem: &Problem,
     matrix: &Matrix,
@@ -27,9 +30,13 @@ pub fn labels_of(
     ensures not_placed { IsNone result → ¬ Placed problem.now matrix.now }
     ensures placed { OnSome result (Placed problem.now matrix.now) }
     ensures one_place { OnSome result (OnePlace problem.now matrix.now) }
-    ensures frames { IfSome result (λ frames. frames ≡ length (frames_of problem.now matrix.now)) }
+
     ensures labels { OnSome result (labels.new ≡ grouping_of problem.now matrix.now) }
+    ensures legal { OnSome result (IsLegal problem.now.items labels.new) }
+    ensures frames { IfSome result (λ frames. frames ≡ classes_of labels.new) }
+
     ensures order { IfSome result (λ frames. take frames order.new ≡ order_of problem.now matrix.now) }
+    ensures named { IfSome result (λ frames. IsOrder labels.new (take frames order.new)) }
 {
     let rows = matrix.rows();
     let row_of = find_rows(problem, rows)?;

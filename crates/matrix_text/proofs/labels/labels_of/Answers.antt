@@ -1,12 +1,16 @@
-use Rattle.std.proofs.Common.{◌≡◌, ◌≤◌, length, arith, ap, subst, sym, ◌∙◌}
+use Rattle.std.proofs.Common.{◌≡◌, ◌≤◌, length, take, arith, ap, subst, sym, ◌∙◌}
 use Rattle.std.proofs.lemmas.Bool.{false≢true}
 use Rattle.pack_model.proofs.Laws.{tests}
 use Rattle.matrix_text.specs.Placed.{Placed}
 use Rattle.matrix_text.specs.OnePlace.{OnePlace}
-use Rattle.matrix_text.specs.Frames.{frames_of, order_of}
+use Rattle.class_frame.specs.Legal.{IsLegal}
+use Rattle.class_frame.specs.Grouping.{IsOrder, classes_of}
+use Rattle.matrix_text.specs.Frames.{frame_identifiers, grouping_of, order_of}
 use Rattle.matrix_text.specs.Tables.{in_use}
 use Rattle.matrix_text.proofs.OnePlaceLaws.{OnePlace-from_Placed, within_frame, rows_fit}
-use Rattle.matrix_text.proofs.PlacedLaws.{labels_apart, in_use_order, order_length, frames-le-items}
+use Rattle.matrix_text.proofs.PlacedLaws.{labels_apart, in_use_order, frames-le-items}
+use Rattle.matrix_text.proofs.FrameLabels.{classes_of_frames, is_order, order_length}
+use Rattle.matrix_text.proofs.FoundLegal.{is_legal}
 use Rattle.matrix_text.proofs.labels.labels_of.Goals as goal
 use Rattle.matrix_text.proofs.labels.labels_of.Goals.{then-not-frames_agree-via-then-not-frames_agree, then-not-frames_agree-via-else-not-frames_agree+then-not-parts_agree, then-not-frames_agree-via-else-not-frames_agree+else-not-parts_agree+then-not-rows_fit}
 
@@ -83,15 +87,30 @@ returns-clause-one_place c =
     (OnePlace-from_Placed c.args.problem.now c.number_frames-label_of.ensures.problem.0 c.number_frames-label_of.ensures.problem.1 c.rows-rows.result.now c.in_ok-row_of.ensures.0 c.in_ok-row_of.row_of c.in_ok-row_of.ensures.1
     (λ i j d before within same. (c.frames_agree.ensures.0 c.if-not-frames_agree.false i j d before within same).kind) (λ i j d before within. (together i j d before within).part) (c.rows_fit.ensures.0 c.if-not-rows_fit.false) (placed_rows c))
 
+-- the labels in use are those of the frames by ascending identifier
+used : (c : goal.After-slice_known-4-1) → in_use c.number_frames-label_of.result ≡ order_of c.args.problem.now c.rows-rows.result.now
+used c =
+    in_use_order c.args.problem.now c.number_frames-label_of.ensures.problem.0 c.number_frames-label_of.ensures.problem.1 c.rows-rows.result.now c.in_ok-row_of.ensures.0 c.in_ok-row_of.row_of c.in_ok-row_of.ensures.1
+    (λ i j d before within. (c.parts_agree.ensures.0 c.if-not-parts_agree.false i j d before within).part) c.number_frames-label_of.result c.number_frames-label_of.ensures.long c.number_frames-label_of.ensures.table
+
 pub returns-clause-frames : goal.returns-clause-frames
 returns-clause-frames c =
-    let used : in_use c.number_frames-label_of.result ≡ order_of c.args.problem.now c.rows-rows.result.now =
-    in_use_order c.args.problem.now c.number_frames-label_of.ensures.problem.0 c.number_frames-label_of.ensures.problem.1 c.rows-rows.result.now c.in_ok-row_of.ensures.0 c.in_ok-row_of.row_of c.in_ok-row_of.ensures.1 (λ i j d before within. (c.parts_agree.ensures.0 c.if-not-parts_agree.false i j d before within).part) c.number_frames-label_of.result c.number_frames-label_of.ensures.long c.number_frames-label_of.ensures.table in
-    c.put_in_order.ensures.count ∙ ap length used ∙ order_length c.args.problem.now c.rows-rows.result.now c.rows-rows.ensures.in_range
-    ∙ ap (λ rows. length (frames_of c.args.problem.now rows)) c.rows-rows.ensures.rows
+    c.put_in_order.ensures.count ∙ ap length (used c) ∙ order_length c.args.problem.now c.rows-rows.result.now c.rows-rows.ensures.in_range
+    ∙ sym (classes_of_frames c.args.problem.now c.rows-rows.result.now) ∙ ap classes_of (sym c.number_frames-label_of.ensures.labels)
+
+pub returns-clause-named : goal.returns-clause-named
+returns-clause-named c =
+    subst (λ ls. IsOrder ls (take c.put_in_order.result c.put_in_order.new.order)) (sym c.number_frames-label_of.ensures.labels)
+    (subst (IsOrder (grouping_of c.args.problem.now c.rows-rows.result.now)) (sym (c.put_in_order.ensures.order ∙ used c))
+    (is_order c.args.problem.now c.rows-rows.result.now c.rows-rows.ensures.in_range))
 
 pub returns-clause-order : goal.returns-clause-order
 returns-clause-order c =
     c.put_in_order.ensures.order
     ∙ in_use_order c.args.problem.now c.number_frames-label_of.ensures.problem.0 c.number_frames-label_of.ensures.problem.1 c.rows-rows.result.now c.in_ok-row_of.ensures.0 c.in_ok-row_of.row_of c.in_ok-row_of.ensures.1 (λ i j d before within. (c.parts_agree.ensures.0 c.if-not-parts_agree.false i j d before within).part) c.number_frames-label_of.result c.number_frames-label_of.ensures.long c.number_frames-label_of.ensures.table
     ∙ ap (λ rows. order_of c.args.problem.now rows) c.rows-rows.ensures.rows
+
+pub returns-clause-legal : goal.returns-clause-legal
+returns-clause-legal c =
+    subst (IsLegal c.args.problem.now.items) (sym c.number_frames-label_of.ensures.labels)
+    (is_legal c.args.problem.now c.number_frames-label_of.ensures.problem.0 c.number_frames-label_of.ensures.problem.1 c.rows-rows.result.now (placed_rows c) c.in_ok-row_of.row_of c.in_ok-row_of.ensures.1)
