@@ -1,5 +1,5 @@
 -- The grouping of a placed matrix is legal: each of its classes can be a frame, since it is one.
-use Rattle.std.proofs.Common.{◌≡◌, ℕ, ◌*◌, ◌<◌, ◌≤◌, ◌⊎◌, Bool, true, false, cond, List, [], ◌∷◌, length, get_or, map, filter, nat_eq, inl, inr, refl, sym, ap, subst, ◌∙◌, arith, All, AllPairs, None, Some, is_some, eq-eqb, eqb-true}
+use Rattle.std.proofs.Common.{◌≡◌, ℕ, ◌<◌, ◌≤◌, ◌⊎◌, cond, List, [], ◌∷◌, length, get_or, map, filter, nat_eq, inl, inr, refl, sym, ap, subst, ◌∙◌, arith, All, AllPairs, None, Some, is_some, eqb-true}
 use Rattle.std.specs.Str.{bytes_eq}
 use Rattle.std.specs.List.{position_or_len}
 use Rattle.std.proofs.lemmas.Bool.{cases_lt, ne_eqb}
@@ -21,7 +21,7 @@ use Rattle.matrix_text.specs.Tables.{HasRows}
 use Rattle.matrix_text.proofs.FrameLabels.{is_grouping, classes_of_frames, label_test}
 use Rattle.matrix_text.proofs.InOrder.{AllDifferent-distinct, All-distinct}
 use Rattle.matrix_text.proofs.ItemsSoFar.{none_kept}
-use Rattle.matrix_text.proofs.RowItems.{RowOfItem, row_of_item, either, one_kind}
+use Rattle.matrix_text.proofs.RowItems.{row_of_item, either, one_kind}
 
 -- the class of a label among what is labelled by a test of itself
 class_of-labelled : {X : Type 0} (f : ℕ → ℕ) (h : X → ℕ) (label : ℕ) (xs : List X) → class_of label (map f (map h xs)) xs ≡ filter (λ x. nat_eq (f (h x)) label) xs

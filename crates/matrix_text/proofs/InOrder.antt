@@ -1,15 +1,14 @@
 -- How many identifiers are in use.
-use Rattle.std.proofs.Common.{◌≡◌, ℕ, ◌+◌, ◌<◌, ◌≤◌, Bool, true, false, cond, List, [], ◌∷◌, length, filter, not, nat_eq, count_by, sym, ap, refl, ◌∙◌, ◌||◌, arith, All, find, eq-eqb}
+use Rattle.std.proofs.Common.{◌≡◌, ℕ, ◌+◌, ◌<◌, ◌≤◌, Bool, true, false, List, [], ◌∷◌, length, filter, not, nat_eq, count_by, sym, ap, refl, ◌∙◌, ◌||◌, arith, All, find, eq-eqb}
 use Rattle.std.specs.List.{list_any, range_with_len}
 use Rattle.std.specs.Option.{option_map_or}
-use Rattle.std.proofs.lemmas.Bool.{ne_eqb, eqb-true}
+use Rattle.std.proofs.lemmas.Bool.{ne_eqb}
 use Rattle.std.proofs.lemmas.Map.Views.{any-filter_same}
 use Rattle.std.proofs.lemmas.List.Elements.{All-head, All-tail, All-cons, All-filter}
 use Rattle.std.proofs.lemmas.List.FromFn.{get_or-range_with_len, length-range_with_len}
-use Rattle.std.proofs.lemmas.List.Sums.{length-filter}
 use Rattle.pack_model.specs.Problem.{distinct}
 use Rattle.matrix_text.specs.declared.matrix.MatrixRow.{MatrixRow}
-use Rattle.matrix_text.proofs.Counts.{counted, count_only}
+use Rattle.matrix_text.proofs.Counts.{count_only}
 
 -- each element is none of those after it
 abbrev pub AllDifferent : List ℕ → Type 0

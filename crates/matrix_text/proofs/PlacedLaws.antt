@@ -1,5 +1,5 @@
 -- The labels of a matrix whose rows have passed.
-use Rattle.std.proofs.Common.{◌≡◌, ℕ, ◌<◌, ◌≤◌, true, List, length, get_or, filter, nat_eq, sym, ap, ◌∙◌, arith, All, AllPairs, slice_index, eq-eqb, if◌then◌else◌}
+use Rattle.std.proofs.Common.{◌≡◌, ℕ, ◌<◌, ◌≤◌, true, List, length, get_or, nat_eq, sym, ap, ◌∙◌, arith, All, AllPairs, slice_index, eq-eqb, if◌then◌else◌}
 use Rattle.std.specs.List.{list_any, range_with_len}
 use Rattle.std.proofs.lemmas.Bool.{eqb-true}
 use Rattle.std.proofs.lemmas.Cmp.{nat_eq_equiv}

@@ -5,7 +5,7 @@ use Rattle.matrix_text.specs.Placed.{Placed}
 use Rattle.matrix_text.specs.OnePlace.{OnePlace}
 use Rattle.class_frame.specs.Legal.{IsLegal}
 use Rattle.class_frame.specs.Grouping.{IsOrder, classes_of}
-use Rattle.matrix_text.specs.Frames.{frame_identifiers, grouping_of, order_of}
+use Rattle.matrix_text.specs.Frames.{grouping_of, order_of}
 use Rattle.matrix_text.specs.Tables.{in_use}
 use Rattle.matrix_text.proofs.OnePlaceLaws.{OnePlace-from_Placed, within_frame, rows_fit}
 use Rattle.matrix_text.proofs.PlacedLaws.{labels_apart, in_use_order, frames-le-items}
