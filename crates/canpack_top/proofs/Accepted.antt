@@ -5,7 +5,7 @@ use Rattle.std.proofs.lemmas.Bool.{le-ltb}
 use Rattle.csv_table.specs.Columns.{◌>>=◌}
 use Rattle.pack_base.specs.Outside.{Files, file_at}
 use Rattle.pack_model.specs.Problem.{Parts}
-use Rattle.matrix_text.specs.declared.matrix.MatrixRow.{MatrixRow}
+use Rattle.matrix_rows.specs.declared.matrix.MatrixRow.{MatrixRow}
 use Rattle.matrix_text.specs.MatrixText.{MatrixText}
 use Rattle.matrix_text.specs.Placed.{Placed}
 use Rattle.cert_text.specs.CertText.{cert_of_text, placed_parts}

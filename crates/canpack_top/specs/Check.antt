@@ -5,7 +5,7 @@ use Rattle.pack_base.specs.Outside.{Files, bytes_at}
 use Rattle.pack_model.specs.declared.network.Network.{Network}
 use Rattle.pack_model.specs.declared.signal.Signal.{Signal}
 use Rattle.pack_model.specs.Problem.{Parts, problem_of}
-use Rattle.matrix_text.specs.declared.matrix.MatrixRow.{MatrixRow}
+use Rattle.matrix_rows.specs.declared.matrix.MatrixRow.{MatrixRow}
 use Rattle.matrix_text.specs.Frames.{grouping_of}
 use Rattle.matrix_text.specs.OnePlace.{OnePlace}
 use Rattle.matrix_text.specs.Placed.{Placed}

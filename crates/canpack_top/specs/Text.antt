@@ -6,7 +6,7 @@ use Rattle.pack_model.specs.declared.problem.ProblemFault.{ProblemFault}
 use Rattle.pack_model.specs.declared.problem.ProblemFault.TheVariants as fault
 use Rattle.matrix_text.specs.MatrixText.{MatrixRefusal, matrix_of_text}
 use Rattle.matrix_text.specs.MatrixText as matrix
-use Rattle.matrix_text.specs.declared.matrix.MatrixRow.{MatrixRow}
+use Rattle.matrix_rows.specs.declared.matrix.MatrixRow.{MatrixRow}
 use Rattle.input_text.specs.NetworkText.{NetworkRefusal, bad_member, network_of, not_json}
 use Rattle.input_text.specs.SignalsText.{SignalsRefusal, signals_of}
 use Rattle.input_text.specs.SignalsText as signals

@@ -2,7 +2,7 @@
 use Rattle.std.specs.Prelude.{◌≡◌, ◌<◌, ⊤, ℕ, List, length, slice_index_or, Result, Ok, Err}
 use Rattle.pack_model.specs.Problem.{Parts}
 use Rattle.response_test.specs.Frame.{FramePasses, IsShown}
-use Rattle.matrix_text.specs.declared.matrix.MatrixRow.{MatrixRow}
+use Rattle.matrix_rows.specs.declared.matrix.MatrixRow.{MatrixRow}
 use Rattle.matrix_text.specs.Frames.{grouping_of, order_of}
 use Rattle.matrix_text.specs.Placed.{Placed}
 use Rattle.cert_text.specs.declared.parts.Kind.{Kind}

@@ -1,25 +1,9 @@
 //! The communication matrix: which signals share a frame, in which bits, under which identifier.
 //!
-//! The one contract that upper crates use is that of [`labels_of`]: it answers exactly where a matrix
-//! is placed, with the grouping and the order of its frames.
+//! This crate only passes on what three others have: the rows and their text (`matrix_rows`), whether
+//! a matrix is placed (`placed_matrix`), and the matrix of a grouping (`matrix_layout`).
 #![tactic(auto)]
 
-mod checks;
-mod class_items;
-mod classes;
-mod fits;
-mod frame;
-mod frame_rows;
-mod frames;
-mod labels;
-mod layout;
-mod matrix;
-mod overlap;
-mod signal_rows;
-mod tally;
-mod text;
-
-pub use labels::labels_of;
-pub use layout::{matrix_of, one_frame_each};
-pub use matrix::{Matrix, MatrixRow};
-pub use text::{MatrixFault, read_matrix, write_matrix};
+pub use matrix_layout::{matrix_of, one_frame_each};
+pub use matrix_rows::{Matrix, MatrixFault, MatrixRow, read_matrix, write_matrix};
+pub use placed_matrix::labels_of;

@@ -5,7 +5,7 @@ use Rattle.std.proofs.lemmas.List.{take-append-le, take_all}
 use Rattle.pack_model.specs.Problem.{Parts}
 use Rattle.class_frame.specs.Grouping.{IsGrouping, IsOrder}
 use Rattle.class_frame.proofs.GroupingLaws.{classes_of-le-length, distinct-order, length-order}
-use Rattle.matrix_text.specs.declared.matrix.MatrixRow.{MatrixRow}
+use Rattle.matrix_rows.specs.declared.matrix.MatrixRow.{MatrixRow}
 use Rattle.matrix_text.specs.Frames.{grouping_of, order_of}
 use Rattle.cert_check.specs.Timing.{AreOrdered, PassIfTimed}
 use Rattle.cert_check.specs.Accept.{PassWhereTimed}

@@ -1,0 +1,2 @@
+pub mod ClassItems
+pub mod LaidOut

@@ -1,0 +1,2 @@
+pub mod MatrixText
+pub mod Row

@@ -1,8 +1,0 @@
-use Rattle.std.proofs.Common.{ℕ, ◌<◌, get_or}
-use Rattle.pack_model.specs.declared.item.Item.{Item}
-use Rattle.matrix_text.specs.Tables.{RowFits, RowsOf}
-use Rattle.matrix_text.proofs.fits.rows_fit.Given as goal
-
--- the rows of the items so far fit
-abbrev pub invariant-loop-item : goal.invariant-loop-item
-invariant-loop-item l = (k : ℕ) (d : Item) → k < l.item-index → RowsOf (RowFits l.problem l.rows) l.rows l.row_of (get_or l.items k d).members

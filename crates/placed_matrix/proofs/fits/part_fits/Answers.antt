@@ -1,0 +1,22 @@
+use Rattle.std.proofs.Common.{subst, sym, get_or, slice_index}
+use Rattle.pack_model.specs.declared.network.Network.{Network}
+use Rattle.placed_matrix.specs.declared.fits.PartFigures.{PartFigures}
+use Rattle.placed_matrix.specs.Items.{items_in_frame}
+use Rattle.placed_matrix.specs.Tables.{MeetsFigures}
+use Rattle.placed_matrix.proofs.RowFacts.{fits_from_figures, figures_from_fits}
+use Rattle.placed_matrix.proofs.fits.part_fits.Goals as goal
+
+pub returns : goal.returns
+returns c =
+    let figures : PartFigures = record { header = c.header-header.result; frame = c.frame_bytes-frame.result; part = c.part_bytes-part.result; before = c.bytes_before-before.result } in
+    let header = c.header-header.ensures (items_in_frame c.args.problem.now c.args.rows.now c.args.first.now.id) c.tally_of-tally.ensures.tally in
+    let frame = c.frame_bytes-frame.ensures.bytes (items_in_frame c.args.problem.now c.args.rows.now c.args.first.now.id) c.tally_of-tally.ensures.tally in (
+      λ t k e inside d.
+          fits_from_figures c.args.problem.now c.args.rows.now c.args.first.now figures header frame c.part_bytes-part.ensures.part c.bytes_before-before.ensures.bytes
+          (get_or c.args.rows.now (slice_index c.args.row_of.now (get_or c.args.places.now k e)) d) (c.requires.place k e inside d) (c.requires.pdu k e inside d)
+          (subst (λ (n : Network). MeetsFigures n (get_or c.args.rows.now (slice_index c.args.row_of.now (get_or c.args.places.now k e)) d) figures) c.network.ensures.network (c.all_meet.ensures.0 t k e inside d)),
+      λ fit. c.all_meet.ensures.1 (λ k e inside d.
+          subst (λ (n : Network). MeetsFigures n (get_or c.args.rows.now (slice_index c.args.row_of.now (get_or c.args.places.now k e)) d) figures) (sym c.network.ensures.network)
+          (figures_from_fits c.args.problem.now c.args.rows.now c.args.first.now figures header frame c.part_bytes-part.ensures.part c.bytes_before-before.ensures.bytes
+          (get_or c.args.rows.now (slice_index c.args.row_of.now (get_or c.args.places.now k e)) d) (c.requires.place k e inside d) (c.requires.pdu k e inside d) (fit k e inside d))),
+    )

@@ -1,0 +1,5 @@
+pub mod Frames
+pub mod Items
+pub mod OnePlace
+pub mod Placed
+pub mod Tables
