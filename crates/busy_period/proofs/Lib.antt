@@ -1,5 +1,6 @@
 pub mod Instances
 pub mod Sums
 pub mod Stages
+pub mod Growth
 pub mod Least
 pub mod Checks

@@ -1,4 +1,5 @@
 pub mod Starts
 pub mod Verdicts
 pub mod Worst
+pub mod Growth
 pub mod Checks

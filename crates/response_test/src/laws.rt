@@ -1,7 +1,9 @@
 ghost use Rattle.std.specs.Prelude.{◌≡◌, ℕ, ◌≤◌, ◌↔◌, List, nat_eq};
 ghost use Rattle.std.specs.List.{IsDistinct};
 ghost use Rattle.busy_period.specs.declared.timed.Timed.{Timed};
+ghost use Rattle.busy_period.specs.Timed.{frame_at};
 ghost use Rattle.busy_period.specs.Stage.{IsSameSet};
+ghost use Rattle.busy_period.specs.Harder.{IsHarder, Grows};
 ghost use Rattle.busy_period.specs.Demand.{blocking_of};
 ghost use Rattle.response_test.specs.Queueing.{queueing_against};
 ghost use Rattle.response_test.specs.Passing.{Passes, Shown};
@@ -39,4 +41,11 @@ pub fn passing_is_being_shown()
 pub fn shown_numbers_pass()
     ensures { (frames : List Timed) (order : List ℕ) (place bit busy : ℕ) (starts : List ℕ)
         → IsShown frames order place bit busy starts → FramePasses frames order place bit }
+{}
+
+/// A law: a frame that passes after it, the higher and the lower frames got harder passed before.
+pub fn growth_keeps_failing()
+    ensures { (frames frames' : List Timed) (own : ℕ) (higher lower higher' lower' : List ℕ) (bit : ℕ) → 1 ≤ bit
+        → IsHarder (frame_at frames own) (frame_at frames' own) → Grows frames higher lower frames' higher' lower'
+        → PassesAgainst frames' own higher' lower' bit → PassesAgainst frames own higher lower bit }
 {}
