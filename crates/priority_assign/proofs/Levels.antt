@@ -78,3 +78,19 @@ fits_if_passes frames level blocked bit index named inside it =
       },
       omega (arith, it.least.short, range.period),
     )
+
+-- a level with one of its frames moved to its end names frames
+pub named_moved : (frames : List Timed) (level now : List ℕ) (index : ℕ) → index < length level → now ≡ moved_last level index
+    → AreNamed frames level → AreNamed frames now
+named_moved frames level now index inside is named =
+    subst (AreNamed frames) (sym is)
+    (named_permuted frames level (moved_last level index) (moved_last-permutation level index inside) named)
+
+-- and has the same busy period
+pub least_fit_moved : (frames : List Timed) (level now : List ℕ) (base ahead from time index : ℕ) → index < length level
+    → now ≡ moved_last level index
+    → IsLeast (IsFit frames level base ahead from) time → IsLeast (IsFit frames now base ahead from) time
+least_fit_moved frames level now base ahead from time index inside is least =
+    let P : List ℕ → Type 0 = λ numbers. IsLeast (IsFit frames numbers base ahead from) time in
+    subst P (sym is)
+    (least_fit_permuted frames level (moved_last level index) base ahead from time (moved_last-permutation level index inside) least)

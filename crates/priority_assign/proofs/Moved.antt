@@ -99,3 +99,11 @@ moved_last-back (x ∷ xs) now next some was turned =
     let back : drop (length now - 1) now ≡ x ∷ [] = ap (drop (length now - 1)) now_is ∙ drop_at xs (x ∷ []) (length now - 1) long in
     let front : take (length now - 1) now ≡ xs = ap (take (length now - 1)) now_is ∙ take_at xs (x ∷ []) (length now - 1) long in
     turned ∙ ap (λ l. l ++ take (length now - 1) now) back ∙ ap (λ l. (x ∷ []) ++ l) front
+
+-- the same, counted from the index that was tried before
+pub moved_last-step : (xs now next : List ℕ) (index : ℕ) → 0 < index → index + 1 ≤ length xs
+    → now ≡ moved_last xs index → length next ≡ length now → SwappedAt now next (index - 1) (length xs - 1)
+    → next ≡ moved_last xs (index - 1)
+moved_last-step xs now next index some within was same_length swapped =
+    let back : index ≡ index - 1 + 1 = omega arith in
+    moved_last-swap xs now next (index - 1) (length xs - 1) (omega arith) (omega arith) (was ∙ ap (moved_last xs) back) same_length swapped
