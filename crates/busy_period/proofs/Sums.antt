@@ -14,7 +14,7 @@ one x z (zero, in', is) = is
 one x z (suc k, in', is) = absurd (omega (arith, in'))
 
 -- the first element does not come again in a list without repeats
-head_apart : (x z : ℕ) (xs : List ℕ) → IsDistinct nat_eq (x ∷ xs) → Contains xs z → x ≡ z → ⊥
+pub head_apart : (x z : ℕ) (xs : List ℕ) → IsDistinct nat_eq (x ∷ xs) → Contains xs z → x ≡ z → ⊥
 head_apart x z xs distinct in' is =
     let apart : nat_eq x z ≡ false =
     All-contains (λ y. nat_eq x y ≡ false) xs z (All-from_recursion (λ y. nat_eq x y ≡ false) xs (IsDistinct-head nat_eq x xs distinct)) in' in
