@@ -1,11 +1,11 @@
 -- One more place that is filled, and what the answer says when all are or none can be.
-use Rattle.std.proofs.Common.{◌≡◌, ℕ, ◌+◌, ◌-◌, ◌<◌, ◌≤◌, inl, inr, zero, suc, List, [], ◌∷◌, ◌++◌, length, take, drop, get_or, max, nat_eq, false, All, Contains, refl, sym, ◌∙◌, ap, subst, arith, length-take, length-drop, length-append, take-append-drop}
+use Rattle.std.proofs.Common.{◌≡◌, ℕ, ◌+◌, ◌-◌, ◌<◌, ◌≤◌, inl, inr, zero, suc, true, false, Option, Some, None, is_some, IfSome, IfNone, List, [], ◌∷◌, ◌++◌, length, take, drop, get_or, max, nat_eq, All, Contains, refl, sym, ◌∙◌, ap, subst, arith, length-take, length-drop, length-append, take-append-drop}
 use Rattle.std.specs.Cmp.{nat_eq_equiv}
 use Rattle.std.specs.List.{IsDistinct, remove}
 use Rattle.std.specs.List.Sorted.{IsPermutation, IsStrictlyIncreasing}
-use Rattle.std.proofs.lemmas.Bool.{cases_lt, eqb-false}
+use Rattle.std.proofs.lemmas.Bool.{cases_lt, eqb-false, false≢true}
 use Rattle.std.proofs.lemmas.List.{append_assoc, append-nil, drop_all, get_or_default, get_or-take, get_or-drop, get_or_append_left, get_or-append_right, get_or_at, take-take, take_all, take_at, drop_at, drop-drop}
-use Rattle.std.proofs.lemmas.List.Elements.{All-contains, All-take, All-drop, Contains-append_left, Contains-append_right}
+use Rattle.std.proofs.lemmas.List.Elements.{All-contains, All-get_or, All-take, All-drop, Contains-append_left, Contains-append_right}
 use Rattle.std.proofs.lemmas.List.Edits.{length-remove}
 use Rattle.std.proofs.lemmas.List.Sorted.{All-permutation, Contains-permutation, length_permutation, IsPermutation-sym, IsPermutation-append_left}
 use Rattle.std.proofs.lemmas.Map.Keys.{IsDistinct-IsPermutation, apart_from_distinct, IsDistinct-from_apart}
@@ -272,4 +272,46 @@ numbered frames bit order long each =
           omega (arith, ap (λ l. get_or l k 0) whole, ap (λ l. get_or l (k + 1) 0) whole, ap length whole, same k 0 (omega (arith, ap length whole)),
               same (k + 1) 0 (omega (arith, ap length whole)));
       taken = λ place from inside. absurd (omega arith);
+    }
+
+-- what holds where something, or nothing, was found
+pub where_some : (found : Option ℕ) (P Q : ℕ → Type 0) → is_some found ≡ true → IfSome found P → IfSome found Q
+    → (index : ℕ) × P index × Q index
+where_some None P Q is p q = absurd (false≢true is)
+where_some (Some index) P Q is p q = (index, p, q)
+
+pub where_none : (found : Option ℕ) (A : Type 0) → is_some found ≡ false → IfNone found A → A
+where_none None A is it = it
+where_none (Some index) A is it = absurd (false≢true (sym is))
+
+-- a front that was put back
+pub put_back : (order level : List ℕ) (m : ℕ) → level ≡ take m order → level ++ drop m order ≡ order
+put_back order level m same = ap (λ l. l ++ drop m order) same ∙ take-append-drop m order
+
+-- what holds of the order after a frame was chosen, and of the frame that took the place
+pub record Chosen (frames : List Timed) (bit m : ℕ) (order now : List ℕ) : Type 0 where
+  pub fills : FillsLowestFirst frames bit (m - 1) now
+  pub blocks : blocking_of frames (drop (m - 1) now) ≡ max (frame_at frames (get_or now (m - 1) 0)).ticks (blocking_of frames (drop m order))
+  pub long : length now ≡ length order
+  pub inside : get_or now (m - 1) 0 < length frames
+
+-- the order after a frame was chosen
+pub chosen_of : (frames : List Timed) (bit blocked m : ℕ) (order level : List ℕ) (found : Option ℕ) → Given frames bit
+    → 0 < m → m ≤ length order → FillsLowestFirst frames bit m order → blocked ≡ blocking_of frames (drop m order)
+    → is_some found ≡ true → IfSome found (IsLastPassing frames (take m order) blocked bit)
+    → IfSome found (λ index. level ≡ moved_last (take m order) index)
+    → Chosen frames bit m order (level ++ drop m order)
+chosen_of frames bit blocked m order level found given some within fills is found_some chosen moved =
+    let at = where_some found (IsLastPassing frames (take m order) blocked bit) (λ index. level ≡ moved_last (take m order) index) found_some chosen moved in
+    let index : ℕ = at.0 in
+    let it : IsLastPassing frames (take m order) blocked bit index = at.1 in
+    let now : List ℕ = level ++ drop m order in
+    let was : now ≡ moved_last (take m order) index ++ drop m order = ap (λ l. l ++ drop m order) at.2 in
+    let long : length now ≡ length order = length_permutation order now (permuted order now m index it.inside was) in
+    let filled : FillsLowestFirst frames bit (m - 1) now = fills_one_more frames bit blocked m order now index given within fills is it was in
+    record {
+      fills = filled;
+      blocks = blocked_one_more frames m order now index within it.inside was;
+      long = long;
+      inside = All-get_or (λ number. number < length frames) now (m - 1) 0 (omega arith) filled.names_each_once.named;
     }
