@@ -11,6 +11,7 @@ use Rattle.busy_period.specs.Timed.{IsInRange, none_frame, frame_at}
 use Rattle.busy_period.specs.Stage.{IsStage, IsSameSet, own_number, own_of, higher_of}
 use Rattle.busy_period.specs.Demand.{instances_of, asks_of, work_of, blocking_of, demand_of}
 use Rattle.busy_period.specs.Busy.{IsBusy, LeastBusy}
+use Rattle.busy_period.proofs.Instances.{below_quotient, quotient-le}
 use Rattle.busy_period.proofs.Stages.{work-le, work-same_set, own_is_in_range}
 use Rattle.response_test.specs.Queueing.{IsBit, queueing_against, queueing_of}
 use Rattle.response_test.specs.Passing.{CanStart}
@@ -37,20 +38,6 @@ pub bit-le-own : (frames : List Timed) (order : List ℕ) (place bit : ℕ) → 
 bit-le-own frames order place bit stage is_bit =
     All-get_or (λ frame. bit ≤ frame.ticks) frames (own_number order place) none_frame
     (All-get_or (λ i. i < length frames) order place 0 stage.inside stage.named) is_bit.within
-
--- a number below a quotient rounded up, and one at least as great
-pub below_quotient : (a y q : ℕ) → 1 ≤ y → q < div_ceil a y → q * y < a
-below_quotient a y q some below =
-    let down : div_ceil a y * y < a + y = (div_ceil_times a y some).1 in
-    let more : (q + 1) * y ≤ div_ceil a y * y = mul-le-mul_right y (omega arith) in
-    omega arith
-
-pub quotient-le : (a y q : ℕ) → 1 ≤ y → a ≤ q * y → div_ceil a y ≤ q
-quotient-le a y q some le =
-    let down : div_ceil a y * y < a + y = (div_ceil_times a y some).1 in
-    let below : div_ceil a y * y < (q + 1) * y = omega arith in
-    let lt : div_ceil a y < q + 1 = lt_of_mul-lt-mul_right y below in
-    omega arith
 
 -- each instance in a busy period can start the time of one sending before its end
 pub starts_before_end : (frames : List Timed) (own : ℕ) (higher : List ℕ) (blocked bit instance busy : ℕ)
