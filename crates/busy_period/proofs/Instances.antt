@@ -37,3 +37,17 @@ asks-bound frame time range le =
     let instances : instances_of frame time ≤ 2 ^ 47 =
     omega (arith, div_ceil-le_self (time + frame.jitter) frame.period range.some_period) in
     mul-le-mul instances range.ticks
+
+-- a number below a quotient rounded up, and one at least as great
+pub below_quotient : (a y q : ℕ) → 1 ≤ y → q < div_ceil a y → q * y < a
+below_quotient a y q some below =
+    let down : div_ceil a y * y < a + y = (div_ceil_times a y some).1 in
+    let more : (q + 1) * y ≤ div_ceil a y * y = mul-le-mul_right y (omega arith) in
+    omega arith
+
+pub quotient-le : (a y q : ℕ) → 1 ≤ y → a ≤ q * y → div_ceil a y ≤ q
+quotient-le a y q some le =
+    let down : div_ceil a y * y < a + y = (div_ceil_times a y some).1 in
+    let below : div_ceil a y * y < (q + 1) * y = omega arith in
+    let lt : div_ceil a y < q + 1 = lt_of_mul-lt-mul_right y below in
+    omega arith

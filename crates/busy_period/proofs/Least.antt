@@ -40,3 +40,21 @@ least_unique P m n first second = omega (arith, first.least n second.holds, seco
 -- whether one number is at most another
 pub le_decided : (m n : ℕ) → (m ≤ n) ⊎ (¬ (m ≤ n))
 le_decided m n = elim (cases_lt n m) [ inl above ↦ inr (λ le. omega arith) | inr le ↦ inl le ]
+
+-- below any number there is a last one at which a test that can be decided holds, or none
+pub last_below : (P : ℕ → Type 0) → ((n : ℕ) → P n ⊎ (¬ P n)) → (n : ℕ)
+    → ((k : ℕ) × (k < n) × P k × ((m : ℕ) → k < m → m < n → ¬ P m)) ⊎ ((m : ℕ) → m < n → ¬ P m)
+last_below P decided zero = inr (λ m below _. omega (arith, below))
+last_below P decided (suc n) =
+    elim (decided n) [
+      | inl here ↦ inl (n, omega arith, here, λ m above below _. omega (arith, above, below))
+      | inr not_here ↦
+          let at_end : (m : ℕ) → (m < n → ¬ P m) → m < suc n → ¬ P m = λ m before below it. elim (cases_lt m n) [
+            | inl below' ↦ before below' it
+            | inr above ↦ not_here (let same : m ≡ n = omega arith in subst P same it)
+          ] in
+          elim (last_below P decided n) [
+            | inl found ↦ inl (found.0, omega (arith, found.1), found.2, λ m above. at_end m (found.3 m above))
+            | inr none ↦ inr (λ m. at_end m (none m))
+          ]
+    ]

@@ -96,23 +96,33 @@ pub fit-above : (frames : List Timed) (numbers : List ℕ) (base ahead from earl
 fit-above frames numbers base ahead from earlier time fit le =
     omega (arith, fit.done, work-le frames numbers (earlier + ahead) (time + ahead) (omega arith))
 
--- the climb of least_busy is at the demand
-pub busy_from_fit : (frames : List Timed) (order : List ℕ) (place time : ℕ) → place < length order
-    → IsFit frames (take (place + 1) order) (blocking_of frames (lower_of order place)) 0 1 time
-    → IsBusy (demand_of frames order place) time
-busy_from_fit frames order place time inside fit =
+-- what fits for a frame and those above it is a busy period of the frame
+pub busy_from_fit : (frames : List Timed) (order : List ℕ) (place blocked time : ℕ) → place < length order
+    → IsFit frames (take (place + 1) order) blocked 0 1 time
+    → IsBusy (λ t. blocked + work_of frames (higher_of order place) t + asks_of (own_of frames order place) t) time
+busy_from_fit frames order place blocked time inside fit =
     record {
       some = fit.begun;
       done = omega (arith, fit.done, work-own frames order place time inside, ap (work_of frames (take (place + 1) order)) (add-zero time));
     }
 
-pub fit_from_busy : (frames : List Timed) (order : List ℕ) (place time : ℕ) → place < length order
-    → IsBusy (demand_of frames order place) time
-    → IsFit frames (take (place + 1) order) (blocking_of frames (lower_of order place)) 0 1 time
-fit_from_busy frames order place time inside busy =
+pub fit_from_busy : (frames : List Timed) (order : List ℕ) (place blocked time : ℕ) → place < length order
+    → IsBusy (λ t. blocked + work_of frames (higher_of order place) t + asks_of (own_of frames order place) t) time
+    → IsFit frames (take (place + 1) order) blocked 0 1 time
+fit_from_busy frames order place blocked time inside busy =
     record {
       begun = busy.some;
       done = omega (arith, busy.done, work-own frames order place time inside, ap (work_of frames (take (place + 1) order)) (add-zero time));
+    }
+
+-- and the least one the least
+pub least_busy_from_fit : (frames : List Timed) (order : List ℕ) (place blocked time : ℕ) → place < length order
+    → IsLeast (IsFit frames (take (place + 1) order) blocked 0 1) time
+    → IsLeast (IsBusy (λ t. blocked + work_of frames (higher_of order place) t + asks_of (own_of frames order place) t)) time
+least_busy_from_fit frames order place blocked time inside least =
+    record {
+      holds = busy_from_fit frames order place blocked time inside least.holds;
+      least = λ m busy. least.least m (fit_from_busy frames order place blocked m inside busy);
     }
 
 -- what the climb up to the last time within 256 instances finds is the busy period
@@ -125,10 +135,7 @@ pub busy_of_climb : (frames : List Timed) (order : List ℕ) (place limit : ℕ)
 busy_of_climb frames order place limit None inside short least within = tt
 busy_of_climb frames order place limit (Some time) inside short least within =
     record {
-      busy = record {
-        holds = busy_from_fit frames order place time inside least.holds;
-        least = λ m busy. least.least m (fit_from_busy frames order place m inside busy);
-      };
+      busy = least_busy_from_fit frames order place (blocking_of frames (lower_of order place)) time inside least;
       short = omega arith;
     }
 
@@ -139,5 +146,5 @@ pub none_of_climb : (frames : List Timed) (order : List ℕ) (place limit : ℕ)
     → IfNone found ((time : ℕ) → IsFit frames (take (place + 1) order) (blocking_of frames (lower_of order place)) 0 1 time → limit < time)
     → IfNone found ((time : ℕ) → ¬ (IsShortBusy (own_of frames order place) (demand_of frames order place) time))
 none_of_climb frames order place limit None inside long none =
-    λ time it. omega (arith, none time (fit_from_busy frames order place time inside it.busy), it.short)
+    λ time it. omega (arith, none time (fit_from_busy frames order place (blocking_of frames (lower_of order place)) time inside it.busy), it.short)
 none_of_climb frames order place limit (Some time) inside long none = tt

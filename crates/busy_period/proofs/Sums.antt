@@ -1,23 +1,40 @@
 -- Laws of sums over numbers.
-use Rattle.std.proofs.Common.{◌≡◌, ℕ, ◌+◌, ◌≤◌, zero, suc, inl, inr, List, [], ◌∷◌, ◌++◌, take, drop, nat_eq, sum_by, Contains, true, false, refl, sym, ◌∙◌, ap, subst, arith, drop-cons, take-append-drop, eq-eqb}
+use Rattle.std.proofs.Common.{◌≡◌, ℕ, ◌+◌, ◌≤◌, zero, suc, inl, inr, List, [], ◌∷◌, ◌++◌, take, drop, get_or, nat_eq, sum_by, Contains, true, false, refl, sym, ◌∙◌, ap, subst, arith, drop-cons, take-append-drop, eq-eqb}
 use Rattle.std.specs.List.{IsDistinct}
 use Rattle.busy_period.specs.Stage.{IsSameSet}
+use Rattle.std.proofs.lemmas.Bool.{eqb-true}
+use Rattle.std.proofs.lemmas.List.{get_or_default}
 use Rattle.std.proofs.lemmas.List.Elements.{All-contains, All-take, All-from_recursion, recursion_from_All, Contains-append_left, Contains-append_right, Contains-append_cases}
 use Rattle.std.proofs.lemmas.List.Sums.{sum_by-cons, sum_by-append}
 use Rattle.std.proofs.lemmas.Map.Keys.{IsDistinct-head, IsDistinct-tail, IsDistinct-cons}
 
 -- a list of one has no other element
-one : (x z : ℕ) → Contains (x ∷ []) z → x ≡ z
+pub one : (x z : ℕ) → Contains (x ∷ []) z → x ≡ z
 one x z (zero, in', is) = is
 one x z (suc k, in', is) = absurd (omega (arith, in'))
 
 -- the first element does not come again in a list without repeats
-head_apart : (x z : ℕ) (xs : List ℕ) → IsDistinct nat_eq (x ∷ xs) → Contains xs z → x ≡ z → ⊥
+pub head_apart : (x z : ℕ) (xs : List ℕ) → IsDistinct nat_eq (x ∷ xs) → Contains xs z → x ≡ z → ⊥
 head_apart x z xs distinct in' is =
     let apart : nat_eq x z ≡ false =
     All-contains (λ y. nat_eq x y ≡ false) xs z (All-from_recursion (λ y. nat_eq x y ≡ false) xs (IsDistinct-head nat_eq x xs distinct)) in' in
     let same : nat_eq x z ≡ true = eq-eqb x z is in
     cc
+
+-- the test of numbers that are not the same
+pub differ : (x y : ℕ) → (x ≡ y → ⊥) → nat_eq x y ≡ false
+differ x y apart = elim (nat_eq x y) as (λ b. nat_eq x y ≡ b → nat_eq x y ≡ false) [
+    | true ↦ λ is. absurd (apart (eqb-true x y is))
+    | false ↦ λ is. is
+  ] refl
+
+-- a number that is not among numbers without repeats may go before them
+pub IsDistinct-absent : (x : ℕ) (xs : List ℕ) → IsDistinct nat_eq xs → (¬ (Contains xs x)) → IsDistinct nat_eq (x ∷ xs)
+IsDistinct-absent x xs distinct absent =
+    IsDistinct-cons nat_eq x xs
+    (recursion_from_All (λ y. nat_eq x y ≡ false) xs
+    (λ k d inside. differ x (get_or xs k d) (λ same. absent (k, inside, get_or_default xs k x d inside ∙ sym same))))
+    distinct
 
 -- Numbers without repeats, all of them among others: a sum over them is at most a greater one over the others.
 pub sum_within : (f g : ℕ → ℕ) (xs ys : List ℕ) → IsDistinct nat_eq xs → ((z : ℕ) → Contains xs z → Contains ys z)

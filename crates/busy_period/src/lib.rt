@@ -11,6 +11,7 @@
 
 mod laws;
 mod level;
+mod line;
 mod period;
 #[cfg(test)]
 mod tests;

@@ -4,13 +4,15 @@ ghost use Rattle.busy_period.specs.Least.{IsLeast};
 ghost use Rattle.busy_period.specs.Busy.{IsFit, FrameBusy, FrameLeastBusy};
 
 use crate::level::{blocking, demand, work};
+use crate::line::climb_start;
 use crate::timed::Timed;
 
 /// The most instances of a frame in a busy period that counts.
 pub const MAX_INSTANCES: u64 = 256;
 
 /// The least time from `from` to `limit` into which `base` ticks and all that the frames ask for within the time and
-/// `ahead` ticks more fit; None exactly where there is none up to `limit`. It climbs from below.
+/// `ahead` ticks more fit; None exactly where there is none up to `limit`. It climbs from below, from a start that what the frames
+/// ask for on the average gives.
 pub fn least_fit(
     frames: &[Timed],
     numbers: &[u32],
@@ -26,7 +28,7 @@ pub fn least_fit(
     ensures within { IfSome result (λ time. time ≤ limit) }
     ensures none { IfNone result ((time : ℕ) → IsFit frames.now numbers.now base ahead from time → limit < time) }
 {
-    let mut time = from;
+    let mut time = climb_start(frames, numbers, base, ahead, from, limit)?;
     while time <= limit {
         let asked = u128::from(base) + work(frames, numbers, time + ahead);
         if asked <= u128::from(time) {

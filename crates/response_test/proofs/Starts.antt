@@ -7,10 +7,11 @@ use Rattle.std.proofs.lemmas.Grind.{div_ceil_times}
 use Rattle.std.proofs.lemmas.List.Elements.{All-get_or}
 use Rattle.std.proofs.Math.Nat.{mul-le-mul_right, lt_of_mul-lt-mul_right}
 use Rattle.busy_period.specs.declared.timed.Timed.{Timed}
-use Rattle.busy_period.specs.Timed.{IsInRange, none_frame}
+use Rattle.busy_period.specs.Timed.{IsInRange, none_frame, frame_at}
 use Rattle.busy_period.specs.Stage.{IsStage, IsSameSet, own_number, own_of, higher_of}
 use Rattle.busy_period.specs.Demand.{instances_of, asks_of, work_of, blocking_of, demand_of}
 use Rattle.busy_period.specs.Busy.{IsBusy, LeastBusy}
+use Rattle.busy_period.proofs.Instances.{below_quotient, quotient-le}
 use Rattle.busy_period.proofs.Stages.{work-le, work-same_set, own_is_in_range}
 use Rattle.response_test.specs.Queueing.{IsBit, queueing_against, queueing_of}
 use Rattle.response_test.specs.Passing.{CanStart}
@@ -38,33 +39,21 @@ bit-le-own frames order place bit stage is_bit =
     All-get_or (λ frame. bit ≤ frame.ticks) frames (own_number order place) none_frame
     (All-get_or (λ i. i < length frames) order place 0 stage.inside stage.named) is_bit.within
 
--- a number below a quotient rounded up, and one at least as great
-pub below_quotient : (a y q : ℕ) → 1 ≤ y → q < div_ceil a y → q * y < a
-below_quotient a y q some below =
-    let down : div_ceil a y * y < a + y = (div_ceil_times a y some).1 in
-    let more : (q + 1) * y ≤ div_ceil a y * y = mul-le-mul_right y (omega arith) in
-    omega arith
-
-pub quotient-le : (a y q : ℕ) → 1 ≤ y → a ≤ q * y → div_ceil a y ≤ q
-quotient-le a y q some le =
-    let down : div_ceil a y * y < a + y = (div_ceil_times a y some).1 in
-    let below : div_ceil a y * y < (q + 1) * y = omega arith in
-    let lt : div_ceil a y < q + 1 = lt_of_mul-lt-mul_right y below in
-    omega arith
-
 -- each instance in a busy period can start the time of one sending before its end
-pub starts_before_end : (frames : List Timed) (order : List ℕ) (place bit instance busy : ℕ)
-    → IsStage frames order place → IsBit frames bit
-    → IsBusy (demand_of frames order place) busy → instance < instances_of (own_of frames order place) busy
-    → ((own_of frames order place).ticks ≤ busy) × CanStart (queueing_of frames order place bit) instance (busy - (own_of frames order place).ticks)
-starts_before_end frames order place bit instance busy stage is_bit it inside =
-    let own : Timed = own_of frames order place in
-    let bit_le : bit ≤ own.ticks = bit-le-own frames order place bit stage is_bit in
+pub starts_before_end : (frames : List Timed) (own : ℕ) (higher : List ℕ) (blocked bit instance busy : ℕ)
+    → bit ≤ (frame_at frames own).ticks
+    → IsBusy (λ t. blocked + work_of frames higher t + asks_of (frame_at frames own) t) busy
+    → instance < instances_of (frame_at frames own) busy
+    → ((frame_at frames own).ticks ≤ busy) × CanStart
+        (λ k start. blocked + k * (frame_at frames own).ticks + work_of frames higher (start + bit)) instance
+        (busy - (frame_at frames own).ticks)
+starts_before_end frames number higher blocked bit instance busy bit_le it inside =
+    let own : Timed = frame_at frames number in
     let sent : (instance + 1) * own.ticks ≤ asks_of own busy = mul-le-mul_right own.ticks (omega arith) in
-    let fits : demand_of frames order place busy ≤ busy = it.done in
+    let fits : blocked + work_of frames higher busy + asks_of own busy ≤ busy = it.done in
     let whole : own.ticks ≤ busy = omega arith in
-    let higher : work_of frames (higher_of order place) (busy - own.ticks + bit) ≤ work_of frames (higher_of order place) busy =
-    work-le frames (higher_of order place) (busy - own.ticks + bit) busy (omega arith) in
+    let less : work_of frames higher (busy - own.ticks + bit) ≤ work_of frames higher busy =
+    work-le frames higher (busy - own.ticks + bit) busy (omega arith) in
     (whole, omega arith)
 
 -- no instance in the busy period starts before it arrives

@@ -1,8 +1,8 @@
-use Rattle.std.specs.Prelude.{◌≡◌, ℕ, ◌<◌, List, length, slice_index}
+use Rattle.std.specs.Prelude.{◌≡◌, ℕ, ◌+◌, ◌*◌, ◌<◌, List, length, slice_index}
 use Rattle.busy_period.specs.declared.timed.Timed.{Timed}
 use Rattle.busy_period.specs.Timed.{frame_at}
 use Rattle.busy_period.specs.Stage.{own_number, own_of, higher_of, lower_of}
-use Rattle.busy_period.specs.Demand.{instances_of, demand_against, demand_of}
+use Rattle.busy_period.specs.Demand.{instances_of, asks_of, work_of, demand_against, demand_of}
 use Rattle.busy_period.specs.Least.{IsLeast}
 use Rattle.busy_period.specs.Busy.{FrameBusy, FrameLeastBusy}
 use Rattle.response_test.specs.Queueing.{queueing_against, queueing_of}
@@ -20,10 +20,17 @@ FrameLeastStart frames order place bit instance = IsLeast (FrameCanStart frames 
 abbrev pub FrameIsInTime : List Timed → List ℕ → ℕ → ℕ → ℕ → Type 0
 FrameIsInTime frames order place = IsInTime (own_of frames order place)
 
--- an instance of the frame at a place passes
-abbrev pub FrameInstancePasses : List Timed → List ℕ → ℕ → ℕ → ℕ → Type 0
-FrameInstancePasses frames order place bit =
-    InstancePasses (own_of frames order place) (queueing_of frames order place bit)
+-- an instance of a frame passes against higher frames, and lower ones that block it for this many ticks
+abbrev pub InstancePassesBlocked : List Timed → ℕ → List ℕ → ℕ → ℕ → ℕ → Type 0
+InstancePassesBlocked frames own higher blocked bit =
+    InstancePasses (frame_at frames own)
+    (λ instance start. blocked + instance * (frame_at frames own).ticks + work_of frames higher (start + bit))
+
+-- a frame passes the written test against higher frames, and lower ones that block it for this many ticks
+abbrev pub PassesBlocked : List Timed → ℕ → List ℕ → ℕ → ℕ → Type 0
+PassesBlocked frames own higher blocked bit =
+    Passes (frame_at frames own) (λ time. blocked + work_of frames higher time + asks_of (frame_at frames own) time)
+    (λ instance start. blocked + instance * (frame_at frames own).ticks + work_of frames higher (start + bit))
 
 -- a frame passes the written test against higher and lower ones
 abbrev pub PassesAgainst : List Timed → ℕ → List ℕ → List ℕ → ℕ → Type 0

@@ -1,4 +1,5 @@
 pub mod Queueing
 pub mod Passing
 pub mod Frame
+pub mod Order
 pub mod Checked

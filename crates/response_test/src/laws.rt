@@ -1,11 +1,14 @@
-ghost use Rattle.std.specs.Prelude.{◌≡◌, ℕ, ◌≤◌, ◌↔◌, List, nat_eq};
+ghost use Rattle.std.specs.Prelude.{◌≡◌, ℕ, ◌≤◌, ◌↔◌, List, nat_eq, All};
 ghost use Rattle.std.specs.List.{IsDistinct};
 ghost use Rattle.busy_period.specs.declared.timed.Timed.{Timed};
+ghost use Rattle.busy_period.specs.Timed.{IsInRange, frame_at};
 ghost use Rattle.busy_period.specs.Stage.{IsSameSet};
+ghost use Rattle.busy_period.specs.Harder.{IsHarder, Grows};
 ghost use Rattle.busy_period.specs.Demand.{blocking_of};
 ghost use Rattle.response_test.specs.Queueing.{queueing_against};
 ghost use Rattle.response_test.specs.Passing.{Passes, Shown};
 ghost use Rattle.response_test.specs.Frame.{PassesAgainst, FramePasses, IsShown};
+ghost use Rattle.response_test.specs.Order.{FailSet, OrderPasses};
 
 /// A law: the demand before an instance never falls in time.
 pub fn queueing_never_falls()
@@ -39,4 +42,17 @@ pub fn passing_is_being_shown()
 pub fn shown_numbers_pass()
     ensures { (frames : List Timed) (order : List ℕ) (place bit busy : ℕ) (starts : List ℕ)
         → IsShown frames order place bit busy starts → FramePasses frames order place bit }
+{}
+
+/// A law: a frame that passes after it, the higher and the lower frames got harder passed before.
+pub fn growth_keeps_failing()
+    ensures { (frames frames' : List Timed) (own : ℕ) (higher lower higher' lower' : List ℕ) (bit : ℕ) → 1 ≤ bit
+        → IsHarder (frame_at frames own) (frame_at frames' own) → Grows frames higher lower frames' higher' lower'
+        → PassesAgainst frames' own higher' lower' bit → PassesAgainst frames own higher lower bit }
+{}
+
+/// A law: no order of all frames passes where some of them are a failing set.
+pub fn no_order_passes_failing_set()
+    ensures { (frames : List Timed) (bit : ℕ) (members order : List ℕ) → 1 ≤ bit → All IsInRange frames
+        → FailSet frames bit members → ¬ (OrderPasses frames bit order) }
 {}

@@ -1,0 +1,4 @@
+pub mod Moved
+pub mod Levels
+pub mod Filling
+pub mod Steps

@@ -1,0 +1,14 @@
+//! Lowest-priority-first assignment: an order of all frames that passes the written test, where one exists, and else the
+//! frames that stand in the way.
+//!
+//! From the lowest place up, among the frames without a place, the one of greatest number that passes with the other such
+//! frames higher and the placed ones lower takes the place. This is the assignment of Audsley, which is complete for a
+//! test that depends on the higher frames as a set and is kept by fewer of them. All times are whole ticks.
+//!
+//! No call takes memory, and each returns for all frames in range.
+#![tactic(auto)]
+
+mod assignment;
+mod level;
+
+pub use assignment::{Assigned, assign};
