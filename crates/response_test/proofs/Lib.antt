@@ -2,3 +2,5 @@ pub mod Starts
 pub mod Verdicts
 pub mod Worst
 pub mod Checks
+pub mod Chains
+pub mod Denials

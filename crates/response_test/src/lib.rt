@@ -8,10 +8,12 @@
 //! No call takes memory, and each returns for every stage.
 #![tactic(auto)]
 
+mod chain;
 mod evidence;
 mod given;
 mod laws;
 mod queue;
+mod refutation;
 #[cfg(test)]
 mod tests;
 mod written;
@@ -22,4 +24,5 @@ pub use laws::{
     passing_is_being_shown, queueing_never_falls, shown_numbers_pass, test_depends_on_sets,
 };
 pub use queue::least_queue;
+pub use refutation::{evidence_denies_passing, refuted};
 pub use written::{passes, worst_response};
