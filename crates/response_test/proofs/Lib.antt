@@ -4,3 +4,4 @@ pub mod Worst
 pub mod Checks
 pub mod Chains
 pub mod Denials
+pub mod Climbs

@@ -67,12 +67,16 @@ first_late frames order place instance =
     first_above ((own_of frames order place).deadline + instance * (own_of frames order place).period)
     ((own_of frames order place).jitter + (own_of frames order place).ticks)
 
--- the evidence where no busy period is within 256 instances: the climb by the demand, no higher than need be
+-- the climb by the demand at a frame's level past 256 instances, no time higher than need be
+abbrev pub IsLongClimb : List Timed → List ℕ → ℕ → List ℕ → Type 0
+IsLongClimb frames order place =
+    IsClimb (λ time. min (demand_of frames order place time) (first_long frames order place)) 1 (first_long frames order place)
+
+-- the evidence where no busy period is within 256 instances
 pub record IsLongOf (frames : List Timed) (order : List ℕ) (place hyper : ℕ) (chain : List ℕ) : Type 0 where
   pub not_over : ¬ (IsOver frames order place hyper)
   pub none : (time : ℕ) → ¬ (FrameBusy frames order place time)
-  pub climb : IsClimb (λ time. min (demand_of frames order place time) (first_long frames order place)) 1
-      (first_long frames order place) chain
+  pub climb : IsLongClimb frames order place chain
 
 -- the evidence where an instance doesn't pass: its number, and the two climbs
 pub record IsLateOf (frames : List Timed) (order : List ℕ) (place bit hyper instance : ℕ) (busy queue : List ℕ) : Type 0 where

@@ -1,14 +1,16 @@
 //! Chains of times: judged as given, and built by a climb.
 ghost use Rattle.std.specs.Prelude.{◌≡◌, ℕ, ◌+◌, ◌*◌, ◌≤◌, ◌^◌, IfOk, min};
 ghost use Rattle.std.specs.Option.{SomeIff};
-ghost use Rattle.busy_period.specs.Busy.{IsFit};
+ghost use Rattle.busy_period.specs.Busy.{IsBusy, IsFit};
 ghost use Rattle.busy_period.specs.Demand.{blocking_of, demand_of, work_of};
 ghost use Rattle.busy_period.specs.Stage.{AreNamed, IsStage, lower_of, own_of};
 ghost use Rattle.response_test.specs.Chain.{IsChain, IsClimb, last_of};
+ghost use Rattle.response_test.specs.Frame.{FrameCanStart};
 ghost use Rattle.response_test.specs.Queueing.{IsBit, queueing_of};
 
 use busy_period::{Timed, blocking, work};
-use std::alloc::{AllocError, Global};
+use pack_model::{Chain, Memory};
+use std::alloc::Global;
 
 /// The greatest time that a chain may have, in ticks.
 pub(crate) const MAX_TIME: u64 = 1 << 45;
@@ -102,15 +104,15 @@ fn climb(
     first: u64,
     until: u64,
     cap: u64,
-) -> Result<Vec<u64>, AllocError>
+) -> Result<Chain, Memory>
     requires named { AreNamed frames.now numbers.now }
     requires base { base ≤ 2 ^ 80 }
     requires ahead { ahead ≤ 2 ^ 45 }
     requires cap { cap ≤ 2 ^ 45 }
     requires until { until ≤ cap }
     requires none { (time : ℕ) → IsFit frames.now numbers.now base ahead first time → until ≤ time }
-    ensures { IfOk result (λ times.
-        IsClimb (λ time. min (base + work_of frames.now numbers.now (time + ahead)) cap) first until times.items) }
+    ensures { IfOk result
+        (IsClimb (λ time. min (base + work_of frames.now numbers.now (time + ahead)) cap) first until) }
 {
     let mut times = Vec::new(alloc);
     let mut time = first;
@@ -120,5 +122,48 @@ fn climb(
         time = asked.min(u128::from(cap)) as u64;
         times.push(time)?;
     }
-    Ok(times)
+    Ok(Chain::of(times))
+}
+
+/// The climb from 1 up to `until` by the demand at the level of the frame at `place`, no time above `cap`. Nothing
+/// before `until` is busy. `cap` is at least `until`, and at most 2^45.
+pub(crate) fn level_climb(
+    alloc: Global,
+    frames: &[Timed],
+    order: &[u32],
+    place: usize,
+    until: u64,
+    cap: u64,
+) -> Result<Chain, Memory>
+    requires stage { IsStage frames.now order.now place }
+    requires cap { cap ≤ 2 ^ 45 }
+    requires until { until ≤ cap }
+    requires none { (time : ℕ) → IsBusy (demand_of frames.now order.now place) time → until ≤ time }
+    ensures { IfOk result (IsClimb (λ time. min (demand_of frames.now order.now place time) cap) 1 until) }
+{
+    let base = base_of(frames, order, place, 0);
+    climb(alloc, frames, &order[..place + 1], base, 0, 1, until, cap)
+}
+
+/// The climb from 0 up to `until` by the demand before an instance of the frame at `place`, no time above 2^45. The
+/// instance can't start before `until`. Both are at most 2^45.
+pub(crate) fn queue_climb(
+    alloc: Global,
+    frames: &[Timed],
+    order: &[u32],
+    place: usize,
+    bit: u64,
+    instance: u64,
+    until: u64,
+) -> Result<Chain, Memory>
+    requires stage { IsStage frames.now order.now place }
+    requires bit { IsBit frames.now bit }
+    requires instance { instance ≤ 2 ^ 45 }
+    requires until { until ≤ 2 ^ 45 }
+    requires none { (time : ℕ) → FrameCanStart frames.now order.now place bit instance time → until ≤ time }
+    ensures { IfOk result
+        (IsClimb (λ time. min (queueing_of frames.now order.now place bit instance time) (2 ^ 45)) 0 until) }
+{
+    let base = base_of(frames, order, place, instance);
+    climb(alloc, frames, &order[..place], base, bit, 0, until, MAX_TIME)
 }

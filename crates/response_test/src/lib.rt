@@ -14,6 +14,7 @@ mod given;
 mod laws;
 mod queue;
 mod refutation;
+mod stage_evidence;
 #[cfg(test)]
 mod tests;
 mod written;
@@ -25,4 +26,5 @@ pub use laws::{
 };
 pub use queue::least_queue;
 pub use refutation::{evidence_denies_passing, refuted};
+pub use stage_evidence::evidence_of;
 pub use written::{passes, worst_response};

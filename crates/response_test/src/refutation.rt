@@ -80,7 +80,6 @@ fn is_late(
 /// multiple of each period, from 1 to 10^15. A chain begins with 1 for the frame's level and with 0 for the instance's
 /// start, and each further time is at most the demand at the one before. A number of an instance or a time above 2^45
 /// makes the answer false.
-#[tactic(auto, using(crate::proofs::Denials::evidence_denies))]
 pub fn refuted(
     frames: &[Timed],
     order: &[u32],
