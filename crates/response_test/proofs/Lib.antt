@@ -5,3 +5,4 @@ pub mod Checks
 pub mod Chains
 pub mod Denials
 pub mod Climbs
+pub mod OneEvidence

@@ -26,5 +26,5 @@ pub use laws::{
 };
 pub use queue::least_queue;
 pub use refutation::{evidence_denies_passing, refuted};
-pub use stage_evidence::evidence_of;
+pub use stage_evidence::{evidence_of, stage_has_one_evidence};
 pub use written::{passes, worst_response};

@@ -1,11 +1,13 @@
 //! The evidence of a stage whose frame doesn't pass.
-ghost use Rattle.std.specs.Prelude.{ℕ, ◌≡◌, ◌≤◌, ◌↔◌, ◌-◌, ◌+◌, IfOk, IfSome, IfNone, IsNone};
+ghost use Rattle.std.specs.Prelude.{ℕ, ◌≡◌, ◌<◌, ◌^◌, ◌↔◌, List, IfOk, IfSome, IfNone, IsNone};
 ghost use Rattle.busy_period.specs.Busy.{FrameBusy, FrameLeastBusy};
 ghost use Rattle.busy_period.specs.Demand.{demand_of};
 ghost use Rattle.busy_period.specs.Stage.{IsStage};
+ghost use Rattle.busy_period.specs.declared.timed.Timed.{Timed};
+ghost use Rattle.response_test.specs.declared.evidence.Evidence.{Evidence};
 ghost use Rattle.response_test.specs.Chain.{IsChain, IsClimb, first_above};
 ghost use Rattle.response_test.specs.Queueing.{IsBit, queueing_of};
-ghost use Rattle.response_test.specs.Frame.{FramePasses};
+ghost use Rattle.response_test.specs.Frame.{FramePasses, HasInstance};
 ghost use Rattle.response_test.specs.Refuted.{IsCommon, IsFirstLate, IsEvidenceOfStage, IsLong, IsLongClimb, Refuted, first_late, first_with};
 
 use crate::chain::{MAX_TIME, level_climb, queue_climb};
@@ -18,7 +20,7 @@ use std::alloc::Global;
 
 /// The least time that, with `added` to it, is above `limit`. `limit` is below 2^63.
 fn time_above(limit: u64, added: u64) -> u64
-    requires { limit ≤ 9000000000000000000 }
+    requires { limit < 2 ^ 63 }
     ensures { result ≡ first_above limit added }
 {
     (limit + 1).saturating_sub(added)
@@ -59,18 +61,16 @@ fn long_chain(alloc: Global, frames: &[Timed], order: &[u32], place: usize) -> R
     level_climb(alloc, frames, order, place, until, until)
 }
 
-/// Times that climb to where the first instance that doesn't pass is in the busy period.
+/// Times that climb to where an instance of the busy period is in it.
 fn busy_chain(
     alloc: Global,
     frames: &[Timed],
     order: &[u32],
     place: usize,
-    bit: u64,
     instance: u64,
 ) -> Result<Chain, Memory>
     requires stage { IsStage frames.now order.now place }
-    requires bit { IsBit frames.now bit }
-    requires late { IsFirstLate frames.now order.now place bit instance }
+    requires inside { HasInstance frames.now order.now place instance }
     ensures climb { IfOk result
         (IsClimb (demand_of frames.now order.now place) 1 (first_with frames.now order.now place instance)) }
     ensures chain { IfOk result (IsChain (demand_of frames.now order.now place) 1) }
@@ -131,7 +131,93 @@ pub fn evidence_of(
     let Some(q) = first_failing(frames, order, place, bit, busy) else {
         return Ok(None);
     };
-    let busy = busy_chain(alloc, frames, order, place, bit, q)?;
+    let busy = busy_chain(alloc, frames, order, place, q)?;
     let queue = queue_chain(alloc, frames, order, place, bit, q)?;
     Ok(Some(Evidence::Late { q, busy, queue }))
+}
+
+/// A law: a stage has one evidence.
+pub fn stage_has_one_evidence()
+    ensures { (frames : List Timed) (order : List ℕ) (place bit hyper : ℕ) (one other : Evidence)
+        → IsEvidenceOfStage frames order place bit hyper one
+        → IsEvidenceOfStage frames order place bit hyper other → one ≡ other }
+{}
+
+#[cfg(test)]
+mod tests {
+    ghost use Rattle.std.specs.Prelude.{IsTrue};
+    ghost use Rattle.busy_period.specs.Checked.{is_stage};
+    ghost use Rattle.response_test.specs.Checked.{is_bit, is_common};
+
+    use super::*;
+    use crate::refutation::refuted;
+    use std::process::Abort;
+
+    macro_rules! timed {
+        ($period:expr, $ticks:expr, $deadline:expr) => {
+            Timed {
+                period: $period,
+                jitter: 0,
+                ticks: $ticks,
+                deadline: $deadline,
+            }
+        };
+    }
+
+    /// The evidence against the frame at a place, which stands.
+    #[tactic(auto, using(crate::proofs::Checks::written_out))]
+    fn evidence(
+        rt: &impl Abort,
+        alloc: Global,
+        frames: &[Timed],
+        order: &[u32],
+        place: usize,
+        bit: u64,
+        hyper: u64,
+    ) -> Evidence
+        requires stage { IsTrue (is_stage frames.now order.now place) }
+        requires bit { IsTrue (is_bit frames.now bit) }
+        requires hyper { IsTrue (is_common frames.now hyper) }
+    {
+        let found = evidence_of(alloc, frames, order, place, bit, hyper)
+            .expect(rt, "memory")
+            .expect(rt, "evidence");
+        assert!(rt; refuted(frames, order, place, bit, hyper, &found));
+        found
+    }
+
+    /// The evidence is that an instance is late, by these chains.
+    fn expect_late(rt: &impl Abort, found: Evidence, number: u64, level: &[u64], start: &[u64]) {
+        let Evidence::Late { q, busy, queue } = found else {
+            panic!(rt; "an instance is late");
+        };
+        assert_eq!(rt; q, number);
+        assert!(rt; busy.as_slice() == level);
+        assert!(rt; queue.as_slice() == start);
+    }
+
+    #[test]
+    fn known_evidence(rt: HostRuntime) {
+        // A frame alone that misses its deadline by its own ticks.
+        let one = [timed!(800_000, 7000, 6960)];
+        let found = evidence(&rt, rt.alloc(), &one, &[0], 0, 160, 800_000);
+        expect_late(&rt, found, 0, &[1], &[0]);
+        // Of three long frames the second is late behind the others, and all three over-fill the bus.
+        let three = [
+            timed!(80_000, 32_400, 80_000),
+            timed!(80_000, 32_400, 80_000),
+            timed!(80_000, 32_400, 80_000),
+        ];
+        let found = evidence(&rt, rt.alloc(), &three, &[0, 1, 2], 1, 160, 80_000);
+        expect_late(&rt, found, 0, &[1], &[0, 64_800]);
+        let found = evidence(&rt, rt.alloc(), &three, &[0, 1, 2], 2, 160, 80_000);
+        assert!(rt; matches!(found, Evidence::Over));
+        // A lower frame blocks for longer than 256 instances, at half a bus.
+        let blocked = [timed!(2, 1, 2), timed!(1000, 600, 1000)];
+        let found = evidence(&rt, rt.alloc(), &blocked, &[0, 1], 0, 1, 1000);
+        let Evidence::Long(chain) = found else {
+            panic!(rt; "no busy period");
+        };
+        assert!(rt; chain.as_slice() == [1, 513].as_slice());
+    }
 }

@@ -9,13 +9,13 @@ level_climb-requires-clause-none c = λ time busy.
     omega (
       arith,
       c.time_above-until.ensures,
-      busy_with_instance c.args.frames.now c.args.order.now c.args.place c.args.instance time c.requires.stage c.requires.late.inside busy,
+      busy_with_instance c.args.frames.now c.args.order.now c.args.place c.args.instance time c.requires.stage c.requires.inside busy,
     )
 
 pub returns-clause-climb : goal.returns-clause-climb
 returns-clause-climb c =
     IfOk-weaker _ _ _
-    (λ chain. busy_climb_uncut c.args.frames.now c.args.order.now c.args.place c.args.instance _ chain c.requires.stage c.requires.late.inside)
+    (λ chain. busy_climb_uncut c.args.frames.now c.args.order.now c.args.place c.args.instance _ chain c.requires.stage c.requires.inside)
     (rw c.time_above-until.ensures at c.level_climb.ensures)
 
 pub returns-clause-chain : goal.returns-clause-chain
