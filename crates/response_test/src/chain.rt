@@ -165,5 +165,14 @@ pub(crate) fn queue_climb(
         (IsClimb (λ time. min (queueing_of frames.now order.now place bit instance time) (2 ^ 45)) 0 until) }
 {
     let base = base_of(frames, order, place, instance);
-    climb(alloc, frames, &order[..place], base, bit, 0, until, MAX_TIME)
+    climb(
+        alloc,
+        frames,
+        &order[..place],
+        base,
+        bit,
+        0,
+        until,
+        MAX_TIME,
+    )
 }

@@ -10,6 +10,8 @@
 
 mod chain;
 mod evidence;
+#[cfg(test)]
+mod evidence_tests;
 mod given;
 mod laws;
 mod queue;

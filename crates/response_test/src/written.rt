@@ -9,7 +9,13 @@ use busy_period::{Timed, least_busy};
 
 /// Whether an instance of the frame at `place` ends by its deadline where it starts as early as it can. `instance` is
 /// at most 256.
-pub(crate) fn instance_passes(frames: &[Timed], order: &[u32], place: usize, bit: u64, instance: u64) -> bool
+pub(crate) fn instance_passes(
+    frames: &[Timed],
+    order: &[u32],
+    place: usize,
+    bit: u64,
+    instance: u64,
+) -> bool
     requires stage { IsStage frames.now order.now place }
     requires bit { IsBit frames.now bit }
     requires instance { instance ≤ 256 }
