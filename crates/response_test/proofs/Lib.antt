@@ -5,3 +5,7 @@ pub mod Worst
 pub mod Growth
 pub mod Order
 pub mod Checks
+pub mod Chains
+pub mod Denials
+pub mod Climbs
+pub mod OneEvidence

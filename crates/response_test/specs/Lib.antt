@@ -3,3 +3,5 @@ pub mod Passing
 pub mod Frame
 pub mod Order
 pub mod Checked
+pub mod Chain
+pub mod Refuted

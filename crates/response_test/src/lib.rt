@@ -8,10 +8,15 @@
 //! No call takes memory, and each returns for every stage.
 #![tactic(auto)]
 
+mod chain;
 mod evidence;
+#[cfg(test)]
+mod evidence_tests;
 mod given;
 mod laws;
 mod queue;
+mod refutation;
+mod stage_evidence;
 #[cfg(test)]
 mod tests;
 mod written;
@@ -22,4 +27,6 @@ pub use laws::{
     growth_keeps_failing, no_order_passes_failing_set, passing_is_being_shown, queueing_never_falls, shown_numbers_pass, test_depends_on_sets,
 };
 pub use queue::least_queue;
+pub use refutation::{evidence_denies_passing, refuted};
+pub use stage_evidence::{evidence_of, stage_has_one_evidence};
 pub use written::{last_passes, passes, worst_response};
