@@ -11,3 +11,4 @@ pub mod BreakLaws
 pub mod SendMore
 pub mod PlayLaws
 pub mod OnePlay
+pub mod Checks

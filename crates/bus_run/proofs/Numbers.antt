@@ -15,10 +15,12 @@ below_more P n below here m less =
     ]
 
 -- a sum of members of which each is at most another
-pub sum_by-le_within : (f g : ℕ → ℕ) (xs : List ℕ) → ((z : ℕ) → Contains xs z → f z ≤ g z) → sum_by f xs ≤ sum_by g xs
+pub sum_by-le_within : (f g : ℕ → ℕ) (xs : List ℕ) → ((z : ℕ) → Contains xs z → f z ≤ g z)
+    → sum_by f xs ≤ sum_by g xs
 sum_by-le_within f g [] le = omega arith
 sum_by-le_within f g (x ∷ xs) le =
-    let rest : sum_by f xs ≤ sum_by g xs = sum_by-le_within f g xs (λ z in'. le z (suc in'.0, omega (arith, in'.1), in'.2)) in
+    let rest : sum_by f xs ≤ sum_by g xs =
+    sum_by-le_within f g xs (λ z in'. le z (suc in'.0, omega (arith, in'.1), in'.2)) in
     let first : f x ≤ g x = le x (0, omega arith, refl) in
     omega (arith, sum_by-cons f x xs, sum_by-cons g x xs)
 
@@ -27,12 +29,14 @@ pub sum_by-less_within : (f g : ℕ → ℕ) (less a : ℕ) (xs : List ℕ) → 
     → Contains xs a → f a + less ≤ g a → sum_by f xs + less ≤ sum_by g xs
 sum_by-less_within f g less a [] le (k, below, is) here = absurd (omega (arith, below))
 sum_by-less_within f g less a (x ∷ xs) le (zero, below, is) here =
-    let rest : sum_by f xs ≤ sum_by g xs = sum_by-le_within f g xs (λ z in'. le z (suc in'.0, omega (arith, in'.1), in'.2)) in
+    let rest : sum_by f xs ≤ sum_by g xs =
+    sum_by-le_within f g xs (λ z in'. le z (suc in'.0, omega (arith, in'.1), in'.2)) in
     let first : f x + less ≤ g x = subst (λ z. f z + less ≤ g z) (sym is) here in
     omega (arith, sum_by-cons f x xs, sum_by-cons g x xs)
 sum_by-less_within f g less a (x ∷ xs) le (suc k, below, is) here =
     let rest : sum_by f xs + less ≤ sum_by g xs =
-    sum_by-less_within f g less a xs (λ z in'. le z (suc in'.0, omega (arith, in'.1), in'.2)) (k, omega (arith, below), is) here in
+    sum_by-less_within f g less a xs (λ z in'. le z (suc in'.0, omega (arith, in'.1), in'.2))
+    (k, omega (arith, below), is) here in
     let first : f x ≤ g x = le x (0, omega arith, refl) in
     omega (arith, sum_by-cons f x xs, sum_by-cons g x xs)
 
@@ -50,12 +54,15 @@ count-le_quotient m a y some fits =
     let lt : m < div_ceil a y + 1 = lt_of_mul-lt-mul_right y below in
     omega arith
 
--- elements that pass a test are from `low` on, each at least a step after the one before, and a step before `high`
-pub record AreSpread {X : Type 0} (test : X → Bool) (key : X → ℕ) (low high step : ℕ) (xs : List X) (none : X) : Type 0 where
+-- elements that pass a test are from `low` on, each at least a step after the one before, and a step before
+-- `high`
+pub record AreSpread {X : Type 0} (test : X → Bool) (key : X → ℕ) (low high step : ℕ) (xs : List X)
+    (none : X) : Type 0 where
   pub from : low ≤ high
   pub above : (k : ℕ) → k < length xs → test (get_or xs k none) ≡ true → low ≤ key (get_or xs k none)
   pub below : (k : ℕ) → k < length xs → test (get_or xs k none) ≡ true → key (get_or xs k none) + step ≤ high
-  pub apart : (i k : ℕ) → i < k → k < length xs → test (get_or xs i none) ≡ true → test (get_or xs k none) ≡ true
+  pub apart : (i k : ℕ) → i < k → k < length xs → test (get_or xs i none) ≡ true
+      → test (get_or xs k none) ≡ true
       → key (get_or xs i none) + step ≤ key (get_or xs k none)
 
 -- then so many steps fit
@@ -79,7 +86,8 @@ spread_fits {X} test key low high step (x ∷ xs) none it =
           below = λ k inside passes. it.below (suc k) (omega arith) passes;
           apart = λ i k lt inside p p'. it.apart (suc i) (suc k) (omega arith) (omega arith) p p';
         }) in
-        let one : count_by test (x ∷ xs) ≡ 1 + count_by test xs = counted ∙ ap (λ b. cond b 1 0 + count_by test xs) e in
+        let one : count_by test (x ∷ xs) ≡ 1 + count_by test xs =
+        counted ∙ ap (λ b. cond b 1 0 + count_by test xs) e in
         let product : count_by test (x ∷ xs) * step ≡ (1 + count_by test xs) * step = ap (λ n. n * step) one in
         omega arith
     by others false e =
@@ -89,6 +97,7 @@ spread_fits {X} test key low high step (x ∷ xs) none it =
           below = λ k inside passes. it.below (suc k) (omega arith) passes;
           apart = λ i k lt inside p p'. it.apart (suc i) (suc k) (omega arith) (omega arith) p p';
         }) in
-        let one : count_by test (x ∷ xs) ≡ 0 + count_by test xs = counted ∙ ap (λ b. cond b 1 0 + count_by test xs) e in
+        let one : count_by test (x ∷ xs) ≡ 0 + count_by test xs =
+        counted ∙ ap (λ b. cond b 1 0 + count_by test xs) e in
         let product : count_by test (x ∷ xs) * step ≡ (0 + count_by test xs) * step = ap (λ n. n * step) one in
         omega arith

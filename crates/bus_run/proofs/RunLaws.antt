@@ -22,31 +22,41 @@ pub record Started (run : Course) (release moment : ℕ) : Type 0 where
   pub carries : (send_at run number).release ≡ release
   pub started : (send_at run number).start ≤ moment
 
-pub finished_decided : (run : Course) (release moment : ℕ) → Finished run release moment ⊎ (¬ Finished run release moment)
+-- whether a release is finished at a moment
+pub finished_decided : (run : Course) (release moment : ℕ)
+    → Finished run release moment ⊎ (¬ Finished run release moment)
 finished_decided run release moment =
     let P : ℕ → Type 0 = λ j. ((send_at run j).release ≡ release) × (end_at run j ≤ moment) in
     let decided : (j : ℕ) → P j ⊎ (¬ P j) = λ j. elim (cases_eq (send_at run j).release release) [
       | inr other ↦ inr (λ it. other it.0)
-      | inl same ↦ elim (le_decided (end_at run j) moment) [ inr after ↦ inr (λ it. after it.1) | inl by ↦ inl (same, by) ]
+      | inl same ↦ elim (le_decided (end_at run j) moment)
+          [ inr after ↦ inr (λ it. after it.1) | inl by ↦ inl (same, by) ]
     ] in
     elim (least_below P decided (length run.sends)) [
-      | inl (k, below, it) ↦ inl (record { number = k; there = below; carries = it.holds.0; ended = it.holds.1 })
+      | inl (k, below, it) ↦ inl
+          (record { number = k; there = below; carries = it.holds.0; ended = it.holds.1 })
       | inr none ↦ inr (λ it. none it.number it.there (it.carries, it.ended))
     ]
 
-pub started_decided : (run : Course) (release moment : ℕ) → Started run release moment ⊎ (¬ Started run release moment)
+-- whether a release has started by a moment
+pub started_decided : (run : Course) (release moment : ℕ)
+    → Started run release moment ⊎ (¬ Started run release moment)
 started_decided run release moment =
     let P : ℕ → Type 0 = λ j. ((send_at run j).release ≡ release) × ((send_at run j).start ≤ moment) in
     let decided : (j : ℕ) → P j ⊎ (¬ P j) = λ j. elim (cases_eq (send_at run j).release release) [
       | inr other ↦ inr (λ it. other it.0)
-      | inl same ↦ elim (le_decided (send_at run j).start moment) [ inr after ↦ inr (λ it. after it.1) | inl by ↦ inl (same, by) ]
+      | inl same ↦ elim (le_decided (send_at run j).start moment)
+          [ inr after ↦ inr (λ it. after it.1) | inl by ↦ inl (same, by) ]
     ] in
     elim (least_below P decided (length run.sends)) [
-      | inl (k, below, it) ↦ inl (record { number = k; there = below; carries = it.holds.0; started = it.holds.1 })
+      | inl (k, below, it) ↦ inl
+          (record { number = k; there = below; carries = it.holds.0; started = it.holds.1 })
       | inr none ↦ inr (λ it. none it.number it.there (it.carries, it.started))
     ]
 
-pub finished_later : (run : Course) (release moment later : ℕ) → moment ≤ later → Finished run release moment → Finished run release later
+-- what is finished stays so
+pub finished_later : (run : Course) (release moment later : ℕ) → moment ≤ later → Finished run release moment
+    → Finished run release later
 finished_later run release moment later le it =
     record { number = it.number; there = it.there; carries = it.carries; ended = omega (arith, it.ended) }
 
@@ -68,7 +78,8 @@ pub record Owing (run : Course) (place moment : ℕ) : Type 0 where
 
 -- all that was queued before a moment is finished at it
 abbrev pub IsClear : Course → ℕ → ℕ → Type 0
-IsClear run place moment = (release : ℕ) → release < length run.releases → (release_at run release).frame ≤ place
+IsClear run place moment =
+    (release : ℕ) → release < length run.releases → (release_at run release).frame ≤ place
     → (release_at run release).queued < moment → Finished run release moment
 
 -- The walk back: from a moment, over what is owing, to a clear moment.
@@ -78,11 +89,13 @@ pub record Begun (run : Course) (place moment : ℕ) : Type 0 where
   pub clear : IsClear run place time
   pub owing : (later : ℕ) → time < later → later ≤ moment → Owing run place later
 
+-- each moment has a clear one before it, with something owing all the while between
 pub walk_back : (run : Course) (place most moment : ℕ) → moment ≤ most → Begun run place moment
 walk_back run place most moment le = go most moment le
   where
     P : ℕ → ℕ → Type 0
-    P moment r = ((release_at run r).frame ≤ place) × ((release_at run r).queued < moment) × (¬ Finished run r moment)
+    P moment r = ((release_at run r).frame ≤ place) × ((release_at run r).queued < moment)
+        × (¬ Finished run r moment)
 
     decided : (moment r : ℕ) → P moment r ⊎ (¬ P moment r)
     decided moment r = elim (le_decided (release_at run r).frame place) [
@@ -114,7 +127,8 @@ walk_back run place most moment le = go most moment le
           | inr none ↦ stop moment none
           | inl (r, there, found) ↦
               let it : P moment r = found.holds in
-              let back : Begun run place (release_at run r).queued = go most (release_at run r).queued (omega (arith, it.1)) in
+              let back : Begun run place (release_at run r).queued =
+              go most (release_at run r).queued (omega (arith, it.1)) in
               record {
                 time = back.time;
                 before = omega (arith, back.before, it.1);
@@ -135,7 +149,8 @@ walk_back run place most moment le = go most moment le
 module _ (times : List Timed) (bit : ℕ) (run : Course) (stands : KeepsTime times bit run) where
   -- a send starts when the one before has ended, or later
   pub before-le-start : (j : ℕ) → j < length run.sends → end_before run j ≤ (send_at run j).start
-  before-le-start j inside = let it : StartsInTime run j = stands.starts j inside in omega (arith, it.starts.then)
+  before-le-start j inside = let it : StartsInTime run j =
+      stands.starts j inside in omega (arith, it.starts.then)
 
   -- sends do not overlap
   pub sends_apart : (i j : ℕ) → i < j → j < length run.sends → end_at run i ≤ (send_at run j).start
@@ -144,11 +159,13 @@ module _ (times : List Timed) (bit : ℕ) (run : Course) (stands : KeepsTime tim
       let last : end_at run j ≤ (send_at run (suc j)).start = before-le-start (suc j) inside in
       elim (cases_lt i j) [
         | inl earlier ↦ omega (arith, last, sends_apart i j earlier (omega (arith, inside)))
-        | inr not_earlier ↦ subst (λ k. end_at run k ≤ (send_at run (suc j)).start) (let same : j ≡ i = omega arith in same) last
+        | inr not_earlier ↦ subst (λ k. end_at run k ≤ (send_at run (suc j)).start) (let same : j ≡ i =
+            omega arith in same) last
       ]
 
   -- the instances of one frame go in order
-  pub sends_in_order : (i j : ℕ) → i < j → j < length run.sends → (carried_by run i).frame ≡ (carried_by run j).frame
+  pub sends_in_order : (i j : ℕ) → i < j → j < length run.sends
+      → (carried_by run i).frame ≡ (carried_by run j).frame
       → (send_at run i).release < (send_at run j).release
   sends_in_order i j lt inside same =
       elim (cases_lt (send_at run i).release (send_at run j).release) [
@@ -157,12 +174,14 @@ module _ (times : List Timed) (bit : ℕ) (run : Course) (stands : KeepsTime tim
             let taken : IsUnsent run j (send_at run j).release = (stands.takes_first j inside).unsent in
             let first : (send_at run i).release ≤ (send_at run j).release =
             (stands.takes_first i (omega (arith, inside))).first (send_at run j).release
-            (record { there = taken.there; unsent = λ e below. taken.unsent e (omega (arith, below)) }) (sym same) in
+            (record { there = taken.there; unsent = λ e below. taken.unsent e (omega (arith, below)) })
+            (sym same) in
             absurd (taken.unsent i lt (omega arith))
       ]
 
   -- a release is sent once at most
-  pub sent_once : (i j : ℕ) → i < length run.sends → j < length run.sends → (send_at run i).release ≡ (send_at run j).release → i ≡ j
+  pub sent_once : (i j : ℕ) → i < length run.sends → j < length run.sends
+      → (send_at run i).release ≡ (send_at run j).release → i ≡ j
   sent_once i j inside inside' same =
       elim (cases_lt i j) [
         | inl less ↦ absurd ((stands.takes_first j inside').unsent.unsent i less same)
@@ -178,7 +197,8 @@ module _ (times : List Timed) (bit : ℕ) (run : Course) (stands : KeepsTime tim
       → ((i : ℕ) → i < j → end_at run i ≤ moment) → IsUnsent run j release
   pending_unsent release moment j there undone inside ended = record {
     there = there;
-    unsent = λ i below carries. undone (record { number = i; there = omega (arith, below); carries = carries; ended = ended i below });
+    unsent = λ i below carries. undone
+        (record { number = i; there = omega (arith, below); carries = carries; ended = ended i below });
   }
 
   -- the bus is not idle while something is pending
@@ -189,21 +209,41 @@ module _ (times : List Timed) (bit : ℕ) (run : Course) (stands : KeepsTime tim
       let decided : (j : ℕ) → P j ⊎ (¬ P j) = λ j. le_decided (suc moment) (end_at run j) in
       elim (least_below P decided (length run.sends)) [
         | inl (j, inside, first) ↦
-            let ended : (i : ℕ) → i < j → end_at run i ≤ moment = λ i below. elim (cases_lt moment (end_at run i)) [
+            let ended : (i : ℕ) → i < j → end_at run i ≤ moment =
+            λ i below. elim (cases_lt moment (end_at run i)) [
               | inl later ↦ absurd (omega (arith, first.least i later, below))
               | inr by ↦ by
             ] in
-            let unsent : IsUnsent run j it.release = pending_unsent it.release moment j it.there it.undone (omega (arith, inside)) ended in
-            let starts : StartsInTime run j = stands.starts j inside in
-            (j, inside, omega (arith, starts.starts.then, starts.starts.least it.release unsent, it.queued, before-ended j moment ended), first.holds)
+            let unsent : IsUnsent run j it.release =
+            pending_unsent it.release moment j it.there it.undone (omega (arith, inside)) ended in
+            let starts : StartsInTime run j = stands.starts j inside in (
+              j,
+              inside,
+              omega (
+                arith,
+                starts.starts.then,
+                starts.starts.least it.release unsent,
+                it.queued,
+                before-ended j moment ended,
+              ),
+              first.holds,
+            )
         | inr none ↦
-            let ended : (i : ℕ) → i < length run.sends → end_at run i ≤ moment = λ i below. elim (cases_lt moment (end_at run i)) [
+            let ended : (i : ℕ) → i < length run.sends → end_at run i ≤ moment =
+            λ i below. elim (cases_lt moment (end_at run i)) [
               | inl later ↦ absurd (none i below later)
               | inr by ↦ by
             ] in
             let unsent : IsUnsent run (length run.sends) it.release =
             pending_unsent it.release moment (length run.sends) it.there it.undone (omega arith) ended in
-            absurd (omega (arith, stands.no_further it.release unsent, it.queued, before-ended (length run.sends) moment ended, before))
+            absurd (omega (
+              arith,
+              stands.no_further it.release unsent,
+              it.queued,
+              before-ended
+                  (length run.sends) moment ended,
+              before,
+            ))
       ]
     where
       before-ended : (j moment : ℕ) → ((i : ℕ) → i < j → end_at run i ≤ moment) → end_before run j ≤ moment
@@ -211,10 +251,12 @@ module _ (times : List Timed) (bit : ℕ) (run : Course) (stands : KeepsTime tim
       before-ended (suc j) moment ended = ended j (omega arith)
 
   -- no lower frame starts while something is pending
-  pub none_lower : (place j : ℕ) → j < length run.sends → Pending run place (send_at run j).start → (carried_by run j).frame ≤ place
+  pub none_lower : (place j : ℕ) → j < length run.sends → Pending run place (send_at run j).start
+      → (carried_by run j).frame ≤ place
   none_lower place j inside it =
       let unsent : IsUnsent run j it.release =
-      pending_unsent it.release (send_at run j).start j it.there it.undone (omega (arith, inside)) (λ i below. sends_apart i j below inside) in
+      pending_unsent it.release (send_at run j).start j it.there it.undone (omega (arith, inside))
+      (λ i below. sends_apart i j below inside) in
       elim (cases_lt (release_at run it.release).frame (carried_by run j).frame) [
         | inl higher ↦ absurd (omega (arith, stands.highest j it.release inside unsent higher, it.queued))
         | inr not_higher ↦ omega (arith, it.level)

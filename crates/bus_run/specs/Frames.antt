@@ -11,7 +11,7 @@ use Rattle.bus_run.specs.declared.run.BusFrame.{BusFrame}
 abbrev pub none_bus_frame : BusFrame
 none_bus_frame = record { id = 0; size = 0; timed = none_frame }
 
--- the frame of a number
+-- the frame at a number
 abbrev pub bus_frame_at : List BusFrame → ℕ → BusFrame
 bus_frame_at frames number = slice_index_or frames number none_bus_frame
 
@@ -22,11 +22,12 @@ times_of frames = map (λ (frame : BusFrame). frame.timed) frames
 -- the frames of a bus: at most 128, by ascending identifier, each of a size of CAN FD, with times in range
 pub record AreBusFrames (frames : List BusFrame) : Type 0 where
   pub few : length frames ≤ 128
-  pub ascending : (earlier later : ℕ) → earlier < later → later < length frames → (bus_frame_at frames earlier).id < (bus_frame_at frames later).id
+  pub ascending : (earlier later : ℕ) → earlier < later → later < length frames
+      → (bus_frame_at frames earlier).id < (bus_frame_at frames later).id
   pub id_high : All (λ frame. frame.id < 2048) frames
   pub listed : All (λ frame. IsSize frame.size) frames
   pub in_range : All IsInRange (times_of frames)
 
--- each frame lasts at most as long as the longest of its size does on a network
+-- the ticks of each frame are those of the longest of its size on a network
 abbrev pub HaveWorstTicks : Network → List BusFrame → Type 0
 HaveWorstTicks network frames = All (λ frame. frame.timed.ticks ≡ worst_ticks_of network frame.size) frames

@@ -8,7 +8,8 @@ use Rattle.bus_run.specs.Run.{Course, release_at, send_at, end_at}
 
 -- when the sending of a release is to have ended
 abbrev pub due : List BusFrame → Course → ℕ → ℕ
-due frames run release = (release_at run release).arrival + (bus_frame_at frames (release_at run release).frame).timed.deadline
+due frames run release =
+    (release_at run release).arrival + (bus_frame_at frames (release_at run release).frame).timed.deadline
 
 -- a send carries a release, and ends by a time
 pub record EndsBy (run : Course) (release time number : ℕ) : Type 0 where

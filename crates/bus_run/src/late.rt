@@ -11,7 +11,8 @@ ghost use Rattle.bus_run.specs.Limits.{ReleaseLimited};
 
 use crate::run::{BusFrame, Run};
 
-/// The first send from the number `from` on that carries a release and ends by a time in ticks, or None where none does.
+/// The first send from the number `from` on that carries a release and ends by a time in ticks, or None where
+/// none does.
 fn ended_by(run: &Run, number: usize, time: u64, from: usize) -> Option<usize>
     ensures some { IfSome result (EndsBy run.now number time) }
     ensures none { IfNone result ((send : ℕ) → from ≤ send → EndsBy run.now number time send → ⊥) }
@@ -25,13 +26,14 @@ fn ended_by(run: &Run, number: usize, time: u64, from: usize) -> Option<usize>
     None
 }
 
-/// Where the sends of a release's frame are to be looked for next, or None where the release is late. They are looked
-/// for from `from` on, where they are in a run that stands, and only then from the first one on.
+/// Where the sends of a release's frame are to be looked for next, or None where the release is late. They
+/// are looked for from `from` on, where they are in a run that stands, and only then from the first one on.
 fn in_time(frames: &[BusFrame], run: &Run, number: usize, from: usize) -> Option<usize>
     requires frames { AreBusFrames frames.now }
     requires inside { number < length run.now.releases }
     requires there { (release_at run.now number).frame < length frames.now }
-    ensures { MatchOption result (IsLate frames.now run.now number) (λ _. IsLate frames.now run.now number → ⊥) }
+    ensures { MatchOption result (IsLate frames.now run.now number)
+        (λ _. IsLate frames.now run.now number → ⊥) }
 {
     let release = run.release(number);
     let due = release.arrival + frames[release.frame as usize].timed.deadline;
@@ -44,8 +46,9 @@ fn in_time(frames: &[BusFrame], run: &Run, number: usize, from: usize) -> Option
     }
 }
 
-/// The first release with a deadline in the run, at or before `until`, that no send carries to its end by then; None
-/// exactly where there is none. In a run that stands no release of a frame that is shown is late. It takes no memory.
+/// The first release with a deadline in the run, at or before `until`, that no send carries to its end by
+/// then; None exactly where there is none. In a run that stands no release of a frame that is shown is late.
+/// It takes no memory.
 pub fn first_late(frames: &[BusFrame], run: &Run) -> Option<u32>
     requires frames { AreBusFrames frames.now }
     requires there { (release : ℕ) → release < length run.now.releases

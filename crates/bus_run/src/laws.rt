@@ -15,9 +15,10 @@ ghost use Rattle.bus_run.specs.Late.{IsLate, IsByNumber, IsShownAt};
 
 /// A law: no release of a frame that is shown is late in any run that stands.
 pub fn shown_is_never_late()
-    ensures { (network : Network) (frames : List BusFrame) (run : Course) (order : List ℕ) (place busy : ℕ) (starts : List ℕ) (release : ℕ)
-        → NetworkStands network → AreBusFrames frames → HaveWorstTicks network frames → IsByNumber (length frames) order place
-        → RunStands network frames run
+    ensures { (network : Network) (frames : List BusFrame) (run : Course) (order : List ℕ) (place busy : ℕ)
+        → (starts : List ℕ) (release : ℕ)
+        → NetworkStands network → AreBusFrames frames → HaveWorstTicks network frames
+        → IsByNumber (length frames) order place → RunStands network frames run
         → IsShown (times_of frames) order place network.nominal_ticks busy starts
         → (release_at run release).frame ≡ place → IsLate frames run release → ⊥ }
 {}
@@ -26,7 +27,8 @@ pub fn shown_is_never_late()
 pub fn all_shown_are_never_late()
     ensures { (network : Network) (frames : List BusFrame) (run : Course) (order : List ℕ)
         → NetworkStands network → AreBusFrames frames → HaveWorstTicks network frames
-        → ((place : ℕ) → place < length frames → IsByNumber (length frames) order place × IsShownAt network frames order place)
+        → ((place : ℕ) → place < length frames
+        → IsByNumber (length frames) order place × IsShownAt network frames order place)
         → RunStands network frames run → (release : ℕ) → IsLate frames run release → ⊥ }
 {}
 
@@ -38,12 +40,13 @@ pub fn broken_runs_do_not_stand()
 
 /// A law: two runs that stand with the same releases and end, and follow the same picks, are the same.
 pub fn one_run_follows_picks()
-    ensures { (network : Network) (frames : List BusFrame) (picks : List Pick) (releases : List Release) (until : ℕ) (sends others : List Sent)
+    ensures { (network : Network) (frames : List BusFrame) (picks : List Pick) (releases : List Release)
+        → (until : ℕ) (sends others : List Sent)
         → RunStands network frames (record { releases = releases; sends = sends; until = until })
         → RunStands network frames (record { releases = releases; sends = others; until = until })
-        → ((number : ℕ) → number < length sends
-        → Follows network frames (pick_at picks number) (record { releases = releases; sends = sends; until = until }) number)
-        → ((number : ℕ) → number < length others
-        → Follows network frames (pick_at picks number) (record { releases = releases; sends = others; until = until }) number)
+        → ((number : ℕ) → number < length sends → Follows network frames (pick_at picks number)
+        (record { releases = releases; sends = sends; until = until }) number)
+        → ((number : ℕ) → number < length others → Follows network frames (pick_at picks number)
+        (record { releases = releases; sends = others; until = until }) number)
         → sends ≡ others }
 {}

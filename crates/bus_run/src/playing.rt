@@ -60,7 +60,8 @@ fn contends_until(network: &Network, pick: &Pick, start: u64) -> u64
 
 /// The highest frame whose first unsent release is queued by a time, or None where there is none.
 fn contender(run: &Run, next: &[usize; 128], time: u64) -> Option<usize>
-    ensures { MatchOption result (QueuedAfter run.now next.now 128 time) (λ frame. Contends run.now next.now time frame) }
+    ensures { MatchOption result (QueuedAfter run.now next.now 128 time)
+        (λ frame. Contends run.now next.now time frame) }
 {
     for frame in 0..128 {
         if next[frame] < run.released() && run.release(next[frame]).queued <= time {
@@ -72,7 +73,8 @@ fn contender(run: &Run, next: &[usize; 128], time: u64) -> Option<usize>
 
 /// When a further send starts, or None where none starts before the run ends.
 fn start_of(run: &Run, next: &[usize; 128], end: u64) -> Option<u64>
-    ensures { MatchOption result (NoneStarts run.now next.now end) (λ start. StartsAt run.now next.now end start) }
+    ensures { MatchOption result (NoneStarts run.now next.now end)
+        (λ start. StartsAt run.now next.now end start) }
 {
     let least = least_queued(run, next)?;
     let start = end.max(least);
@@ -112,7 +114,8 @@ fn sent_by(
     })
 }
 
-/// Makes one send of a run that is played: the one that starts at a time, by a pick. It answers when that send ends.
+/// Makes one send of a run that is played: the one that starts at a time, by a pick. It answers when that
+/// send ends.
 fn play_send(
     alloc: Global,
     network: &Network,
@@ -148,8 +151,9 @@ fn play_send(
     Ok(ended)
 }
 
-/// The run that stands with these releases up to `until` ticks and follows the picks: its k-th send follows the k-th
-/// pick, and each send past them a pick without `join`, with `esi` false, `fill` 0 and `shorter` 0. Only one run does.
+/// The run that stands with these releases up to `until` ticks and follows the picks: its k-th send follows
+/// the k-th pick, and each send past them a pick without `join`, with `esi` false, `fill` 0 and `shorter` 0.
+/// Only one run does.
 pub fn play(
     alloc: Global,
     network: &Network,
@@ -161,11 +165,13 @@ pub fn play(
     requires network { NetworkStands network.now }
     requires frames { AreBusFrames frames.now }
     requires limited { IsLimited (record { releases = releases.now; sends = []; until = until }) }
-    requires releases { ReleasesStand frames.now (record { releases = releases.now; sends = []; until = until }) }
+    requires releases { ReleasesStand frames.now
+        (record { releases = releases.now; sends = []; until = until }) }
     ensures releases { IfOk result (λ run. run.releases ≡ releases.now) }
     ensures until { IfOk result (λ run. run.until ≡ until) }
     ensures stands { IfOk result (λ run. RunStands network.now frames.now run) }
-    ensures follows { IfOk result (λ run. (number : ℕ) → number < length run.sends → Follows network.now frames.now (pick_at picks.now number) run number) }
+    ensures follows { IfOk result (λ run. (number : ℕ) → number < length run.sends
+        → Follows network.now frames.now (pick_at picks.now number) run number) }
 {
     let mut run = run_of(Vec::from_slice(alloc, releases)?, Vec::new(alloc), until);
     let mut next = first_of_each(&run);

@@ -20,14 +20,17 @@ fn is_queued(frame: &BusFrame, release: &Release) -> bool
     release.arrival <= release.queued && release.queued <= release.arrival + frame.timed.jitter
 }
 
-/// Whether a release arrives at least a period after each earlier one of its frame. `last` is one more than the number
-/// of the last of these, or 0.
+/// Whether a release arrives at least a period after each earlier one of its frame. `last` is one more than
+/// the number of the last of these, or 0.
 fn is_periodic(frame: &BusFrame, run: &Run, number: usize, last: usize) -> bool
     requires inside { number < length run.now.releases }
     requires range { IsInRange frame.now.timed }
     requires last { HasLast run.now number (release_at run.now number).frame last }
-    ensures some { IsTrue result → 0 < last → (release_at run.now (last - 1)).arrival + frame.now.timed.period ≤ (release_at run.now number).arrival }
-    ensures none { ((0 < last) → (release_at run.now (last - 1)).arrival + frame.now.timed.period ≤ (release_at run.now number).arrival) → IsTrue result }
+    ensures some { IsTrue result → 0 < last
+        → (release_at run.now (last - 1)).arrival + frame.now.timed.period ≤ (release_at run.now number).arrival }
+    ensures none { ((0 < last)
+        → (release_at run.now (last - 1)).arrival + frame.now.timed.period ≤ (release_at run.now number).arrival)
+        → IsTrue result }
 {
     last == 0 || run.release(last - 1).arrival + frame.timed.period <= run.release(number).arrival
 }
@@ -36,14 +39,16 @@ fn is_periodic(frame: &BusFrame, run: &Run, number: usize, last: usize) -> bool
 fn is_in_order(run: &Run, number: usize, last: usize) -> bool
     requires inside { number < length run.now.releases }
     requires last { HasLast run.now number (release_at run.now number).frame last }
-    ensures some { IsTrue result → 0 < last → (release_at run.now (last - 1)).queued ≤ (release_at run.now number).queued }
-    ensures none { ((0 < last) → (release_at run.now (last - 1)).queued ≤ (release_at run.now number).queued) → IsTrue result }
+    ensures some { IsTrue result → 0 < last
+        → (release_at run.now (last - 1)).queued ≤ (release_at run.now number).queued }
+    ensures none { ((0 < last) → (release_at run.now (last - 1)).queued ≤ (release_at run.now number).queued)
+        → IsTrue result }
 {
     last == 0 || run.release(last - 1).queued <= run.release(number).queued
 }
 
-/// Whether a release stands, or the first rule that it breaks, from 1 to 4. `last` has for each frame one more than the number of
-/// its last release before.
+/// Whether a release stands, or the first rule that it breaks, from 1 to 4. `last` has for each frame one
+/// more than the number of its last release before.
 fn release_stands(
     frames: &[BusFrame],
     run: &Run,

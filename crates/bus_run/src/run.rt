@@ -7,8 +7,8 @@ use busy_period::Timed;
 use pack_model::{Memory, Payload};
 use std::marker::Model;
 
-/// A frame on the bus. Frames are listed by ascending identifier, at most 128 of them, so the frame of a lower number
-/// is the higher one.
+/// A frame on the bus. Frames are listed by ascending identifier, at most 128 of them, so the frame of a
+/// lower number is the higher one.
 #[derive(Clone, Copy, Debug, PartialEq, Eq)]
 pub struct BusFrame {
     /// The identifier, below 2048.
@@ -45,7 +45,8 @@ pub struct Sent {
     pub ticks: u64,
 }
 
-/// What was released and sent on a bus, up to a time: at most 2^32 - 1 releases, and all times at most 10^18 ticks.
+/// What was released and sent on a bus, up to a time: at most 2^32 - 1 releases, and all times at most 10^18
+/// ticks.
 #[derive(Debug, Drop)]
 pub struct Run {
     releases: Vec<Release>,

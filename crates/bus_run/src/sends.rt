@@ -105,8 +105,8 @@ fn is_highest(run: &Run, number: usize, next: &[usize; 128]) -> bool
     queued_after(run, next, frame, send.start)
 }
 
-/// Whether a send stands, or the first rule that it breaks, from 5 to 10. `next` has the first unsent release of each
-/// frame, and `end` is when the send before ends.
+/// Whether a send stands, or the first rule that it breaks, from 5 to 10. `next` has the first unsent release
+/// of each frame, and `end` is when the send before ends.
 pub(crate) fn send_stands(
     network: &Network,
     frames: &[BusFrame],
@@ -146,4 +146,3 @@ pub(crate) fn send_stands(
     }
     Ok(())
 }
-

@@ -35,13 +35,15 @@ fn no_further(run: &Run, next: &[usize; 128], end: u64) -> bool
     }
 }
 
-/// Whether a run stands whose releases do, or the first of its sends that does not, with the first rule that it breaks.
+/// Whether a run stands whose releases do, or the first of its sends that does not, with the first rule that
+/// it breaks.
 fn sends_stand(network: &Network, frames: &[BusFrame], run: &Run) -> Result<(), Broken>
     requires network { NetworkStands network.now }
     requires frames { AreBusFrames frames.now }
     requires releases { ReleasesStand frames.now run.now }
     ensures stands { OnOk result (RunStands network.now frames.now run.now) }
-    ensures breaks { IfErr result (λ broken. RunBreaks network.now frames.now run.now broken.rule broken.place) }
+    ensures breaks { IfErr result
+        (λ broken. RunBreaks network.now frames.now run.now broken.rule broken.place) }
 {
     let mut next = first_of_each(run);
     let mut end = 0;
@@ -68,8 +70,9 @@ fn sends_stand(network: &Network, frames: &[BusFrame], run: &Run) -> Result<(), 
     }
 }
 
-/// Whether a run stands over the frames of a bus, or the first rule that it breaks: the rules of the releases in their
-/// order, then those of the sends in theirs, then the last one, whose place is the number of sends. It takes no memory.
+/// Whether a run stands over the frames of a bus, or the first rule that it breaks: the rules of the releases
+/// in their order, then those of the sends in theirs, then the last one, whose place is the number of sends.
+/// It takes no memory.
 ///
 /// | Rule | For | Says |
 /// |---|---|---|
@@ -88,7 +91,8 @@ pub fn run_stands(network: &Network, frames: &[BusFrame], run: &Run) -> Result<(
     requires network { NetworkStands network.now }
     requires frames { AreBusFrames frames.now }
     ensures stands { OnOk result (RunStands network.now frames.now run.now) }
-    ensures breaks { IfErr result (λ broken. RunBreaks network.now frames.now run.now broken.rule broken.place) }
+    ensures breaks { IfErr result
+        (λ broken. RunBreaks network.now frames.now run.now broken.rule broken.place) }
 {
     if let Err(broken) = releases_stand(frames, run) {
         return Err(broken);

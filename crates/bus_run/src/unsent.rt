@@ -44,7 +44,8 @@ fn lesser(least: Option<u64>, queued: u64) -> u64
 
 /// The least time in ticks at which a release in a table is queued, or None where the table has none.
 pub(crate) fn least_queued(run: &Run, next: &[usize; 128]) -> Option<u64>
-    ensures { MatchOption result (NoneIn run.now next.now 128) (λ least. IsLeastBelow run.now next.now 128 least) }
+    ensures { MatchOption result (NoneIn run.now next.now 128)
+        (λ least. IsLeastBelow run.now next.now 128 least) }
 {
     let mut least = None;
     for frame in 0..128 {

@@ -26,15 +26,20 @@ pub returns-clause-played : goal.returns-clause-played
 returns-clause-played c =
     let pick_is : c.picked-pick.result ≡ pick_at c.args.picks.now (length c.args.run.now.sends) =
     c.picked-pick.ensures ∙ ap (pick_at c.args.picks.now) c.sent.ensures in
-    let time_is : c.contends_until-time.result ≡ contends_by c.args.network.now (pick_at c.args.picks.now (length c.args.run.now.sends)) c.args.start =
+    let time_is : c.contends_until-time.result
+    ≡ contends_by c.args.network.now (pick_at c.args.picks.now (length c.args.run.now.sends)) c.args.start =
     c.contends_until-time.ensures ∙ ap (λ (p : Pick). contends_by c.args.network.now p c.args.start) pick_is in
     let run_is : c.push.new.self ≡ with_send c.args.run.now c.in_ok-send.send = c.in_ok-push.ensures in
     let Played : Course → Type 0 = λ run. IsPlayed c.args.network.now c.args.frames.now c.args.picks.now run
     (slice_set c.args.next.now c.in-Some.frame c.first_from.result) (c.args.start + c.in_ok-send.send.ticks) in
     subst Played (sym run_is)
-    (played_more c.args.network.now c.args.frames.now c.args.picks.now c.args.run.now c.args.next.now c.args.end c.args.start c.in-Some.frame
-    c.first_from.result c.in_ok-send.send c.requires.network c.requires.frames c.requires.releases c.requires.played c.requires.starts
+    (played_more c.args.network.now c.args.frames.now c.args.picks.now c.args.run.now c.args.next.now
+    c.args.end c.args.start c.in-Some.frame
+    c.first_from.result c.in_ok-send.send c.requires.network c.requires.frames c.requires.releases
+    c.requires.played c.requires.starts
     (subst (λ time. Contends c.args.run.now c.args.next.now time c.in-Some.frame) time_is c.in-Some.ensures)
     c.in_ok-send.ensures.release c.in_ok-send.ensures.start
-    (subst (λ (p : Pick). IsPicked c.args.network.now (bus_frame_at c.args.frames.now c.in-Some.frame) p c.in_ok-send.send) pick_is c.in_ok-send.ensures.picked)
-    (subst (λ (run : Course). IsFirstFrom run c.in-Some.frame (slice_index c.args.next.now c.in-Some.frame + 1) c.first_from.result) run_is c.first_from.ensures))
+    (subst (λ (p : Pick). IsPicked c.args.network.now (bus_frame_at c.args.frames.now c.in-Some.frame) p
+    c.in_ok-send.send) pick_is c.in_ok-send.ensures.picked)
+    (subst (λ (run : Course). IsFirstFrom run c.in-Some.frame
+    (slice_index c.args.next.now c.in-Some.frame + 1) c.first_from.result) run_is c.first_from.ensures))

@@ -20,19 +20,29 @@ returns-in-Err-clause-breaks c =
 
 pub loop-number-preserved : goal.loop-number-preserved
 loop-number-preserved c =
-    let here : SendStands c.args.network.now c.args.frames.now c.args.run.now c.loop-number.number = c.in_default.ensures.stands in
-    let send : c.send-send.result.now ≡ send_at c.args.run.now c.loop-number.number = c.send-send.ensures.value in
-    let release : c.send-send.result.now.release ≡ (send_at c.args.run.now c.loop-number.number).release = ap (λ (s : Sent). s.release) send in
+    let here : SendStands c.args.network.now c.args.frames.now c.args.run.now c.loop-number.number =
+    c.in_default.ensures.stands in
+    let send : c.send-send.result.now ≡ send_at c.args.run.now c.loop-number.number =
+    c.send-send.ensures.value in
+    let release : c.send-send.result.now.release ≡ (send_at c.args.run.now c.loop-number.number).release =
+    ap (λ (s : Sent). s.release) send in
     let frame : c.release-frame.result.frame ≡ (carried_by c.args.run.now c.loop-number.number).frame =
-    ap (λ (r : Release). r.frame) c.release-frame.ensures.value ∙ ap (λ (s : Sent). (release_at c.args.run.now s.release).frame) send in
-    let from : IsFirstFrom c.args.run.now (carried_by c.args.run.now c.loop-number.number).frame ((send_at c.args.run.now c.loop-number.number).release + 1) c.first_from.result =
-    subst (λ n. IsFirstFrom c.args.run.now (carried_by c.args.run.now c.loop-number.number).frame (n + 1) c.first_from.result) release
-    (subst (λ f. IsFirstFrom c.args.run.now f (c.send-send.result.now.release + 1) c.first_from.result) frame c.first_from.ensures) in
+    ap (λ (r : Release). r.frame) c.release-frame.ensures.value
+    ∙ ap (λ (s : Sent). (release_at c.args.run.now s.release).frame) send in
+    let from : IsFirstFrom c.args.run.now (carried_by c.args.run.now c.loop-number.number).frame
+    ((send_at c.args.run.now c.loop-number.number).release + 1) c.first_from.result =
+    subst (λ n. IsFirstFrom c.args.run.now (carried_by c.args.run.now c.loop-number.number).frame (n + 1)
+    c.first_from.result) release
+    (subst (λ f. IsFirstFrom c.args.run.now f (c.send-send.result.now.release + 1) c.first_from.result) frame
+    c.first_from.ensures) in
     record {
       long = length-set _ _ _ ∙ c.loop-number.invariant.long;
-      stand = below_more (SendStands c.args.network.now c.args.frames.now c.args.run.now) c.loop-number.number c.loop-number.invariant.stand here;
-      next = subst (λ f. HaveNext c.args.run.now (c.loop-number.number + 1) (slice_set c.loop-number.next f c.first_from.result)) (sym frame)
-          (next_more c.args.run.now c.loop-number.number c.first_from.result c.loop-number.next c.loop-number.invariant.long
+      stand = below_more (SendStands c.args.network.now c.args.frames.now c.args.run.now) c.loop-number.number
+          c.loop-number.invariant.stand here;
+      next = subst (λ f. HaveNext c.args.run.now (c.loop-number.number + 1)
+          (slice_set c.loop-number.next f c.first_from.result)) (sym frame)
+          (next_more c.args.run.now c.loop-number.number c.first_from.result c.loop-number.next
+          c.loop-number.invariant.long
           (frames_below c.args.frames.now c.args.run.now c.requires.frames c.requires.releases)
           c.loop-number.invariant.next here.takes_first from);
       end = ap (λ (s : Sent). s.start + s.ticks) send ∙ sym (end_more c.args.run.now c.loop-number.number);
