@@ -1,5 +1,5 @@
 -- What the tests of frames and releases that are written out say.
-use Rattle.std.proofs.Common.{◌≡◌, ℕ, ◌<◌, ◌≤◌, zero, suc, Bool, true, ◌&&◌, IsTrue, List, [], ◌∷◌, length, nat_le, nat_lt, arith}
+use Rattle.std.proofs.Common.{◌≡◌, ℕ, ◌<◌, ◌≤◌, zero, suc, true, ◌&&◌, IsTrue, List, [], ◌∷◌, length, nat_le, nat_lt, arith}
 use Rattle.std.specs.List.{list_all}
 use Rattle.std.proofs.lemmas.Bool.{and_parts, leb-true, ltb-true}
 use Rattle.std.proofs.lemmas.List.Elements.{All-get_or, All-map, All-weaker}

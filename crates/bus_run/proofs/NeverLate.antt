@@ -16,9 +16,9 @@ use Rattle.response_test.specs.Frame.{IsShown}
 use Rattle.bus_run.specs.Run.{Course, release_at, send_at, carried_by, end_at}
 use Rattle.bus_run.specs.Rules.{IsQueued}
 use Rattle.bus_run.proofs.KeepsTime.{LastsWithin, KeepsTime}
-use Rattle.bus_run.specs.Late.{EndsBy, Misses, IsByNumber}
+use Rattle.bus_run.specs.Late.{Misses, IsByNumber}
 use Rattle.bus_run.proofs.Numbers.{sum_by-le_within, sum_by-less_within}
-use Rattle.bus_run.proofs.Spans.{Span, span_at, IsIn, Blocks, is_lower, charged, Facts, spans_fill}
+use Rattle.bus_run.proofs.Spans.{Span, span_at, IsIn, Blocks, is_lower, charged, spans_fill}
 use Rattle.bus_run.proofs.RunLaws.{Pending, Owing, IsClear, Begun, walk_back, finished_later, started_decided, in_use, none_lower}
 use Rattle.bus_run.proofs.WorkLaws.{span_of, spans_of, span_is, spans_count, none_uncharged, counts, spans_apart, in_span, charged-le, level_work, level_work_less, before_unstarted, before_release}
 

@@ -2,8 +2,7 @@
 use Rattle.std.proofs.Common.{◌≡◌, ℕ, ◌+◌, ◌<◌, ◌≤◌, inl, inr, min, max, Option, Some, None, MatchOption, List, length, get_or, slice_index, slice_set, set, get_or-set_same, get_or-set_other, refl, sym, ap, subst, ◌∙◌, arith, add-one}
 use Rattle.std.proofs.lemmas.Bool.{cases_lt, cases_eq}
 use Rattle.bus_run.specs.Run.{Course, release_at, send_at, carried_by, end_at, end_before, IsUnsent}
-use Rattle.bus_run.specs.Rules.{TakesFirst, StartsInTime, IsHighest, IsInOrder, NoFurther, ReleasesStand, SendStands}
-use Rattle.pack_model.specs.declared.network.Network.{Network}
+use Rattle.bus_run.specs.Rules.{TakesFirst, StartsInTime, IsHighest, IsInOrder, NoFurther, ReleasesStand}
 use Rattle.bus_run.specs.declared.run.BusFrame.{BusFrame}
 use Rattle.bus_run.specs.Frames.{AreBusFrames}
 use Rattle.bus_run.specs.Tables.{IsFirstFrom, HasNext, HaveNext, IsLeastBelow, NoneIn, QueuedAfter, FramesBelow}

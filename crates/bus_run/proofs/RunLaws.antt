@@ -2,7 +2,6 @@
 use Rattle.std.proofs.Common.{◌≡◌, ℕ, ◌+◌, ◌<◌, ◌≤◌, ◌⊎◌, zero, suc, inl, inr, List, length, sym, subst, arith}
 use Rattle.std.proofs.lemmas.Bool.{cases_lt, cases_eq}
 use Rattle.busy_period.specs.declared.timed.Timed.{Timed}
-use Rattle.busy_period.specs.Least.{IsLeast}
 use Rattle.busy_period.proofs.Least.{least_below, le_decided}
 use Rattle.bus_run.specs.Run.{Course, release_at, send_at, carried_by, end_at, end_before, IsUnsent}
 use Rattle.bus_run.specs.Rules.{StartsInTime}

@@ -1,5 +1,5 @@
 -- A run that stands keeps to the times of its frames.
-use Rattle.std.proofs.Common.{◌≡◌, ℕ, ◌+◌, ◌*◌, ◌<◌, ◌≤◌, zero, suc, List, [], ◌∷◌, length, refl, sym, ap, ◌∙◌, arith}
+use Rattle.std.proofs.Common.{◌≡◌, ℕ, ◌<◌, ◌≤◌, zero, suc, List, [], ◌∷◌, length, refl, sym, ap, ◌∙◌, arith}
 use Rattle.std.proofs.lemmas.List.{length-map}
 use Rattle.std.proofs.lemmas.List.Elements.{All-get_or, All-map, All-weaker}
 use Rattle.pack_model.specs.declared.network.Network.{Network}
@@ -17,7 +17,7 @@ use Rattle.bus_run.specs.declared.run.BusFrame.{BusFrame}
 use Rattle.bus_run.specs.Frames.{none_bus_frame, bus_frame_at, times_of, AreBusFrames, HaveWorstTicks}
 use Rattle.bus_run.specs.Run.{Course, release_at, send_at, carried_by}
 use Rattle.bus_run.specs.Rules.{LastsAsSent, RunStands}
-use Rattle.bus_run.specs.Late.{EndsBy, IsLate, IsByNumber}
+use Rattle.bus_run.specs.Late.{IsLate, IsByNumber}
 use Rattle.bus_run.proofs.KeepsTime.{KeepsTime}
 use Rattle.bus_run.proofs.NeverLate.{never_late}
 

@@ -1,5 +1,5 @@
 -- Tests that compute whether frames and releases that are written out are those of a bus.
-use Rattle.std.specs.Prelude.{ℕ, Bool, true, ◌&&◌, List, [], ◌∷◌, length, nat_le, nat_lt}
+use Rattle.std.specs.Prelude.{Bool, true, ◌&&◌, List, [], ◌∷◌, length, nat_le, nat_lt}
 use Rattle.std.specs.List.{list_all}
 use Rattle.fd_length.specs.Size.{is_size}
 use Rattle.busy_period.specs.Checked.{is_in_range}
