@@ -3,16 +3,17 @@ use Rattle.std.proofs.Common.{◌≡◌, ℕ, ◌+◌, ◌<◌, ◌≤◌, ◌�
 use Rattle.std.proofs.lemmas.Bool.{cases_lt}
 use Rattle.busy_period.specs.Least.{IsLeast}
 
--- up to any number, a test that can be decided has a least solution, or none
+-- below any number, a test that can be decided has a least solution, or none
 pub least_below : (P : ℕ → Type 0) → ((n : ℕ) → P n ⊎ (¬ P n)) → (n : ℕ)
-    → ((k : ℕ) × IsLeast P k) ⊎ ((m : ℕ) → m < n → ¬ P m)
+    → ((k : ℕ) × (k < n) × IsLeast P k) ⊎ ((m : ℕ) → m < n → ¬ P m)
 least_below P decided zero = inr (λ m below _. omega (arith, below))
 least_below P decided (suc n) =
     elim (least_below P decided n) [
-      | inl found ↦ inl found
+      | inl (k, below, found) ↦ inl (k, omega (arith, below), found)
       | inr none ↦ elim (decided n) [
         | inl here ↦ inl (
           n,
+          omega arith,
           record {
             holds = here;
             least = λ m it. elim (cases_lt m n) [ inl below ↦ absurd (none m below it) | inr above ↦ above ];
@@ -29,7 +30,7 @@ least_below P decided (suc n) =
 pub least_exists : (P : ℕ → Type 0) → ((n : ℕ) → P n ⊎ (¬ P n)) → (n : ℕ) → P n → (k : ℕ) × IsLeast P k
 least_exists P decided n it =
     elim (least_below P decided (n + 1)) [
-      | inl found ↦ found
+      | inl (k, below, found) ↦ (k, found)
       | inr none ↦ absurd (none n (omega arith) it)
     ]
 

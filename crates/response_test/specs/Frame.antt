@@ -26,6 +26,11 @@ InstancePassesBlocked frames own higher blocked bit =
     InstancePasses (frame_at frames own)
     (λ instance start. blocked + instance * (frame_at frames own).ticks + work_of frames higher (start + bit))
 
+-- an instance of the frame at a place passes
+abbrev pub FrameInstancePasses : List Timed → List ℕ → ℕ → ℕ → ℕ → Type 0
+FrameInstancePasses frames order place bit =
+    InstancePasses (own_of frames order place) (queueing_of frames order place bit)
+
 -- a frame passes the written test against higher frames, and lower ones that block it for this many ticks
 abbrev pub PassesBlocked : List Timed → ℕ → List ℕ → ℕ → ℕ → Type 0
 PassesBlocked frames own higher blocked bit =

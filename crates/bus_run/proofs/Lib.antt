@@ -1,0 +1,14 @@
+pub mod Numbers
+pub mod Spans
+pub mod KeepsTime
+pub mod RunLaws
+pub mod WorkLaws
+pub mod NeverLate
+pub mod TimesKept
+pub mod LastLaws
+pub mod NextLaws
+pub mod BreakLaws
+pub mod SendMore
+pub mod PlayLaws
+pub mod OnePlay
+pub mod Checks
