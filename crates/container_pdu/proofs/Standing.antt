@@ -11,8 +11,10 @@ use Rattle.container_pdu.specs.declared.header.Header.{Header}
 use Rattle.container_pdu.specs.declared.header.Header.TheVariants.{NoHeader, Short, Long}
 use Rattle.container_pdu.specs.declared.part.Part.{Part}
 use Rattle.container_pdu.specs.declared.fault.ContainerFault.{ContainerFault}
+use Rattle.container_pdu.specs.declared.fault.ContainerFault.TheVariants as fault
+use Rattle.pack_model.specs.Gives.{Gives}
 use Rattle.container_pdu.specs.Bytes.{IsContainer, header_bytes, id_limit, length_limit, parts_text}
-use Rattle.container_pdu.specs.Reading.{cut_header, zero_id, cut_body, twice_id, Gives, after_header, has_id, id_in, is_zeros, length_in, part_at, parts_after, parts_of}
+use Rattle.container_pdu.specs.Reading.{told, after_header, has_id, id_in, is_zeros, length_in, part_at, parts_after, parts_of}
 use Rattle.container_pdu.proofs.Headers.{IsBytes, IsBytes-drop, IsBytes-take, two}
 use Rattle.container_pdu.proofs.Taken.{bind_ok, guard_ok, ok_is, part_taken, all_taken}
 use Rattle.container_pdu.proofs.Again.{IsPart}
@@ -45,10 +47,10 @@ record IsNext (kind : Header) (earlier : List Part) (part : Part) : Type 0 where
 part_stands : (kind : Header) (at : ℕ) (earlier : List Part) (bytes : List ℕ) (x : Part × List ℕ) → IsBytes bytes → part_at kind at earlier bytes ≡ Ok x → IsNext kind earlier x.0
 part_stands kind at earlier bytes x fits e =
     let made : Part × List ℕ = (record { id = id_in kind bytes; bytes = take (length_in kind bytes) (drop (header_bytes kind) bytes) }, drop (length_in kind bytes) (drop (header_bytes kind) bytes)) in
-    let g0 = guard_ok (nat_lt (length bytes) (header_bytes kind)) (cut_header at) _ x e in
-    let g1 = guard_ok (nat_eq (id_in kind bytes) 0) (zero_id at) _ x g0.1 in
-    let g2 = guard_ok (nat_lt (length (after_header kind bytes)) (length_in kind bytes)) (cut_body at) _ x g1.1 in
-    let g3 = guard_ok (has_id (id_in kind bytes) earlier) (twice_id (id_in kind bytes)) (Ok made) x g2.1 in
+    let g0 = guard_ok (nat_lt (length bytes) (header_bytes kind)) (fault.CutHeader at) _ x e in
+    let g1 = guard_ok (nat_eq (id_in kind bytes) 0) (fault.ZeroId at) _ x g0.1 in
+    let g2 = guard_ok (nat_lt (length (after_header kind bytes)) (length_in kind bytes)) (fault.CutBody at) _ x g1.1 in
+    let g3 = guard_ok (has_id (id_in kind bytes) earlier) (fault.TwiceId (id_in kind bytes)) (Ok made) x g2.1 in
     let body : length_in kind bytes ≤ length (drop (header_bytes kind) bytes) = ltb-false _ _ g2.0 in
     let len : length (take (length_in kind bytes) (drop (header_bytes kind) bytes)) ≡ length_in kind bytes = length-take-le _ _ body in
     subst (λ (y : Part × List ℕ). IsNext kind earlier y.0) (ok_is made x g3.1) (record {
@@ -103,6 +105,6 @@ container_found kind bytes all under fits e =
       spelled = spelled;
     }
 
-pub is_found : (kind : Header) (bytes : List ℕ) (r : Result (Vec Part) ContainerFault) → kind ≢ NoHeader → IsBytes bytes → Gives (λ v. v.items) r (parts_of kind bytes) → IfOk r (λ v. IsContainer kind v.items bytes)
+pub is_found : (kind : Header) (bytes : List ℕ) (r : Result (Vec Part) ContainerFault) → kind ≢ NoHeader → IsBytes bytes → Gives (λ v. v.items) told r (parts_of kind bytes) → IfOk r (λ v. IsContainer kind v.items bytes)
 is_found kind bytes (Ok v) under fits given = container_found kind bytes v.items under fits given
 is_found kind bytes (Err e) under fits given = tt

@@ -1,4 +1,5 @@
 pub mod ClassTimes
+pub mod Gives
 pub mod Grouping
 pub mod Items
 pub mod Name
