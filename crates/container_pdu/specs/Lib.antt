@@ -1,3 +1,4 @@
 pub mod Bytes
 pub mod Class
 pub mod Reading
+pub mod Refusals

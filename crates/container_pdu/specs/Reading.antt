@@ -1,4 +1,4 @@
--- Reading the parts of a container from the front, with the first refusal that is met.
+-- The steps by which a container is read, from the front, with the first fault that is met.
 use Rattle.std.specs.Prelude.{ℕ, Bool, zero, suc, ◌-◌, ◌==◌, ◌++◌, List, [], ◌∷◌, length, take, drop, slice_index, nat_lt, Option, Some, None, Result, Ok, Err, if◌then◌else◌}
 use Rattle.std.specs.List.{list_all, list_any}
 use Rattle.std.specs.Int.{w32, from_be_bytes}
