@@ -18,7 +18,8 @@ pub record IsPart (kind : Header) (part : Part) : Type 0 where
   pub id : part.id < id_limit kind
   pub count : length part.bytes < length_limit kind
 
-no_zero : (id : ℕ) → 1 ≤ id → nat_eq id 0 ≡ false
+-- an id of 1 or more is not 0
+pub no_zero : (id : ℕ) → 1 ≤ id → nat_eq id 0 ≡ false
 no_zero id some =
     elim (two (nat_eq id 0)) [
       | inl is ↦ let e : id ≡ 0 = eqb-true id 0 is in absurd (omega arith)
@@ -81,31 +82,41 @@ is_fresh earlier part more apart =
     let ne = apart k (length earlier) d lt (omega (arith, length-append earlier (part ∷ more))) in
     differ (get_or earlier k d).id part.id (λ e. ne (ap (λ (p : Part). p.id) at ∙ e ∙ sym (ap (λ (p : Part). p.id) here))))
 
-parts_again : (kind : Header) (total steps : ℕ) (earlier more : List Part) (count : ℕ) → All (IsPart kind) more → AllPairs (λ p q. p.id ≢ q.id) (earlier ++ more) → length more ≤ steps
-    → parts_after kind total steps earlier (parts_text kind more ++ replicate count 0) ≡ Ok (earlier ++ more)
-parts_again kind total zero earlier [] count are apart few = ap (λ (ps : List Part). Ok ps) (sym (append-nil earlier))
-parts_again kind total zero earlier (part ∷ more) count are apart few = absurd (omega arith)
-parts_again kind total (suc steps) earlier [] count are apart few = rw (is_zeros-replicate count) (ap (λ (ps : List Part). Ok ps) (sym (append-nil earlier)))
-parts_again kind total (suc steps) earlier (part ∷ more) count are apart few =
-    let rest = parts_text kind more ++ replicate count 0 in
+-- reading passes over parts that stand, whatever follows them
+pub parts_passed : (kind : Header) (total steps : ℕ) (earlier more : List Part) (rest : List ℕ) → All (IsPart kind) more → AllPairs (λ p q. p.id ≢ q.id) (earlier ++ more) → length more ≤ steps
+    → parts_after kind total steps earlier (parts_text kind more ++ rest) ≡ parts_after kind total (steps - length more) (earlier ++ more) rest
+parts_passed kind total steps earlier [] rest are apart few =
+    let same : steps - 0 ≡ steps = omega arith in
+    rw (same, append-nil earlier) refl
+parts_passed kind total zero earlier (part ∷ more) rest are apart few = absurd (omega arith)
+parts_passed kind total (suc steps) earlier (part ∷ more) rest are apart few =
     let is = All-head (IsPart kind) part more are in
-    let split : parts_text kind (part ∷ more) ++ replicate count 0 ≡ part_text kind part ++ (parts_text kind more ++ replicate count 0) = append_assoc (part_text kind part) (parts_text kind more) (replicate count 0) in
+    let split : parts_text kind (part ∷ more) ++ rest ≡ part_text kind part ++ (parts_text kind more ++ rest) = append_assoc (part_text kind part) (parts_text kind more) rest in
     let grouped : (earlier ++ part ∷ []) ++ more ≡ earlier ++ part ∷ more = append_assoc earlier (part ∷ []) more in
-    let next = parts_again kind total steps (earlier ++ part ∷ []) more count (All-tail (IsPart kind) part more are) (subst (AllPairs (λ (p : Part) (q : Part). p.id ≢ q.id)) (sym grouped) apart) (omega arith) in
+    let one : suc steps - length (part ∷ more) ≡ steps - length more = omega arith in
+    let next = parts_passed kind total steps (earlier ++ part ∷ []) more rest (All-tail (IsPart kind) part more are) (subst (AllPairs (λ (p : Part) (q : Part). p.id ≢ q.id)) (sym grouped) apart) (omega arith) in
     ap (parts_after kind total (suc steps) earlier) split
-    ∙ rw (not_zeros kind part (parts_text kind more ++ replicate count 0) is, part_again kind (total - length (part_text kind part ++ (parts_text kind more ++ replicate count 0))) earlier part (parts_text kind more ++ replicate count 0) is (is_fresh earlier part more apart)) next
-    ∙ ap (λ (ps : List Part). Ok ps) grouped
+    ∙ rw (not_zeros kind part (parts_text kind more ++ rest) is, part_again kind (total - length (part_text kind part ++ (parts_text kind more ++ rest))) earlier part (parts_text kind more ++ rest) is (is_fresh earlier part more apart)) next
+    ∙ ap (λ (ps : List Part). parts_after kind total (steps - length more) ps rest) grouped
+    ∙ ap (λ (n : ℕ). parts_after kind total n (earlier ++ part ∷ more) rest) (sym one)
+
+-- zeros end the reading
+at_zeros : (kind : Header) (total steps : ℕ) (earlier : List Part) (count : ℕ) → parts_after kind total steps earlier (replicate count 0) ≡ Ok earlier
+at_zeros kind total zero earlier count = refl
+at_zeros kind total (suc steps) earlier count = rw (is_zeros-replicate count) refl
 
 -- there are no more parts than bytes
-count_le : (kind : Header) (parts : List Part) → kind ≢ NoHeader → length parts ≤ length (parts_text kind parts)
+pub count_le : (kind : Header) (parts : List Part) → kind ≢ NoHeader → length parts ≤ length (parts_text kind parts)
 count_le kind [] under = omega arith
 count_le kind (part ∷ more) under =
     let h = count_le kind more under in
     omega (arith, h, some_bytes kind under, header_len kind part.id (length part.bytes), length-append (part_text kind part) (parts_text kind more), length-append (header_text kind part.id (length part.bytes)) part.bytes)
 
+-- what is written is read
 pub container_again : (kind : Header) (parts : List Part) (size : ℕ) → Fits kind parts size → parts_of kind (container_text kind parts size) ≡ Ok parts
 container_again kind parts size fits =
-    parts_again kind (length (container_text kind parts size)) (length (container_text kind parts size)) [] parts (size - length (parts_text kind parts))
+    parts_passed kind (length (container_text kind parts size)) (length (container_text kind parts size)) [] parts (replicate (size - length (parts_text kind parts)) 0)
     (λ k d lt. record { some_id = fits.some_id k d lt; id = fits.ids k d lt; count = fits.lengths k d lt })
     fits.distinct
     (omega (arith, count_le kind parts fits.under_headers, length-append (parts_text kind parts) (replicate (size - length (parts_text kind parts)) 0)))
+    ∙ at_zeros kind (length (container_text kind parts size)) _ parts (size - length (parts_text kind parts))

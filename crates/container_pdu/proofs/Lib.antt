@@ -3,3 +3,4 @@ pub mod Headers
 pub mod Taken
 pub mod Again
 pub mod Standing
+pub mod Refused

@@ -5,19 +5,21 @@ use Rattle.std.proofs.lemmas.List.{append-nil, nil_from_length, take-append-drop
 use Rattle.container_pdu.specs.declared.header.Header.{Header}
 use Rattle.container_pdu.specs.declared.header.Header.TheVariants.{NoHeader, Short, Long}
 use Rattle.container_pdu.specs.declared.part.Part.{Part}
+use Rattle.container_pdu.specs.declared.fault.ContainerFault.{ContainerFault}
+use Rattle.container_pdu.specs.declared.fault.ContainerFault.TheVariants as fault
 use Rattle.container_pdu.specs.Bytes.{container_text, header_bytes, header_text, part_text, parts_text}
-use Rattle.container_pdu.specs.Reading.{Refusal, cut_header, zero_id, cut_body, twice_id, ◌>>=◌, after_header, has_id, id_in, is_zeros, length_in, part_at, parts_after, parts_of}
+use Rattle.container_pdu.specs.Reading.{◌>>=◌, after_header, has_id, id_in, is_zeros, length_in, part_at, parts_after, parts_of}
 use Rattle.container_pdu.proofs.Headers.{IsBytes, IsBytes-drop, two, zeros_are, header_taken}
 
-pub bind_ok : {A B : Type 0} (r : Result A Refusal) (f : A → Result B Refusal) (y : B) → (r >>= f) ≡ Ok y → (x : A) × (r ≡ Ok x) × (f x ≡ Ok y)
+pub bind_ok : {A B : Type 0} (r : Result A ContainerFault) (f : A → Result B ContainerFault) (y : B) → (r >>= f) ≡ Ok y → (x : A) × (r ≡ Ok x) × (f x ≡ Ok y)
 bind_ok (Ok x) f y e = (x, refl, e)
 bind_ok (Err d) f y e = absurd cc
 
-pub guard_ok : {A : Type 0} (b : Bool) (d : Refusal) (r : Result A Refusal) (y : A) → cond b (Err d) r ≡ Ok y → (b ≡ false) × (r ≡ Ok y)
+pub guard_ok : {A : Type 0} (b : Bool) (d : ContainerFault) (r : Result A ContainerFault) (y : A) → cond b (Err d) r ≡ Ok y → (b ≡ false) × (r ≡ Ok y)
 guard_ok true d r y e = absurd cc
 guard_ok false d r y e = (refl, e)
 
-abbrev pub done : {A : Type 0} → A → Result A Refusal
+abbrev pub done : {A : Type 0} → A → Result A ContainerFault
 done x = Ok x
 
 pub ok_is : {A : Type 0} (x y : A) → done x ≡ done y → x ≡ y
@@ -41,10 +43,10 @@ part_taken kind at earlier bytes x fits e =
     let n = length_in kind bytes in
     let tail = drop (header_bytes kind) bytes in
     let made : Part × List ℕ = (record { id = id_in kind bytes; bytes = take (length_in kind bytes) (drop (header_bytes kind) bytes) }, drop (length_in kind bytes) (drop (header_bytes kind) bytes)) in
-    let g0 = guard_ok (nat_lt (length bytes) (header_bytes kind)) (cut_header at) _ x e in
-    let g1 = guard_ok (nat_eq (id_in kind bytes) 0) (zero_id at) _ x g0.1 in
-    let g2 = guard_ok (nat_lt (length (after_header kind bytes)) (length_in kind bytes)) (cut_body at) _ x g1.1 in
-    let g3 = guard_ok (has_id (id_in kind bytes) earlier) (twice_id (id_in kind bytes)) (Ok made) x g2.1 in
+    let g0 = guard_ok (nat_lt (length bytes) (header_bytes kind)) (fault.CutHeader at) _ x e in
+    let g1 = guard_ok (nat_eq (id_in kind bytes) 0) (fault.ZeroId at) _ x g0.1 in
+    let g2 = guard_ok (nat_lt (length (after_header kind bytes)) (length_in kind bytes)) (fault.CutBody at) _ x g1.1 in
+    let g3 = guard_ok (has_id (id_in kind bytes) earlier) (fault.TwiceId (id_in kind bytes)) (Ok made) x g2.1 in
     let long : header_bytes kind ≤ length bytes = ltb-false _ _ g0.0 in
     let body : length_in kind bytes ≤ length (drop (header_bytes kind) bytes) = ltb-false _ _ g2.0 in
     let some = has_bytes kind bytes g1.0 in

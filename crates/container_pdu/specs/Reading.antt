@@ -1,5 +1,5 @@
--- Reading the parts of a container from the front, with the first refusal that is met.
-use Rattle.std.specs.Prelude.{◌≡◌, ℕ, Bool, zero, suc, ◌-◌, ◌==◌, ◌++◌, List, [], ◌∷◌, length, take, drop, slice_index, nat_lt, Option, Some, None, Result, Ok, Err, if◌then◌else◌}
+-- The steps by which a container is read, from the front, with the first fault that is met.
+use Rattle.std.specs.Prelude.{ℕ, Bool, zero, suc, ◌-◌, ◌==◌, ◌++◌, List, [], ◌∷◌, length, take, drop, slice_index, nat_lt, Option, Some, None, Result, Ok, Err, if◌then◌else◌}
 use Rattle.std.specs.List.{list_all, list_any}
 use Rattle.std.specs.Int.{w32, from_be_bytes}
 use Rattle.container_pdu.specs.declared.header.Header.{Header}
@@ -8,14 +8,6 @@ use Rattle.container_pdu.specs.declared.part.Part.{Part}
 use Rattle.container_pdu.specs.declared.fault.ContainerFault.{ContainerFault}
 use Rattle.container_pdu.specs.declared.fault.ContainerFault.TheVariants as fault
 use Rattle.container_pdu.specs.Bytes.{header_bytes}
-
--- why bytes are no container: at a place fewer bytes than a header are left, the id is 0, or fewer bytes than the
--- length follow; or an id is an earlier part's
-pub data Refusal : Type 0 where
-  cut_header : ℕ → Refusal
-  zero_id : ℕ → Refusal
-  cut_body : ℕ → Refusal
-  twice_id : ℕ → Refusal
 
 -- the id that a header says: its first 24 or 32 bits
 abbrev pub id_in : Header → List ℕ → ℕ
@@ -39,16 +31,16 @@ after_header header bytes = drop (header_bytes header) bytes
 
 -- the part at the front of these bytes and the bytes after it, or why there is none; it stands at a place, after
 -- earlier parts
-abbrev pub part_at : Header → ℕ → List Part → List ℕ → Result (Part × List ℕ) Refusal
+abbrev pub part_at : Header → ℕ → List Part → List ℕ → Result (Part × List ℕ) ContainerFault
 part_at header at earlier bytes =
-    if nat_lt (length bytes) (header_bytes header) then Err (cut_header at)
-    else (if id_in header bytes == 0 then Err (zero_id at)
-    else (if nat_lt (length (after_header header bytes)) (length_in header bytes) then Err (cut_body at)
-    else (if has_id (id_in header bytes) earlier then Err (twice_id (id_in header bytes))
+    if nat_lt (length bytes) (header_bytes header) then Err (fault.CutHeader at)
+    else (if id_in header bytes == 0 then Err (fault.ZeroId at)
+    else (if nat_lt (length (after_header header bytes)) (length_in header bytes) then Err (fault.CutBody at)
+    else (if has_id (id_in header bytes) earlier then Err (fault.TwiceId (id_in header bytes))
     else Ok (record { id = id_in header bytes; bytes = take (length_in header bytes) (after_header header bytes) }, drop (length_in header bytes) (after_header header bytes)))))
 
 infixl 10 ◌>>=◌
-abbrev pub ◌>>=◌ : {A B : Type 0} → Result A Refusal → (A → Result B Refusal) → Result B Refusal
+abbrev pub ◌>>=◌ : {A B : Type 0} → Result A ContainerFault → (A → Result B ContainerFault) → Result B ContainerFault
 (Ok x) >>= f = f x
 (Err e) >>= f = Err e
 
@@ -58,30 +50,17 @@ is_zeros bytes = list_all (λ byte. byte == 0) bytes
 
 -- the earlier parts and those of the bytes that are left of so many in all, until only zeros are left; each part
 -- takes a byte at least, so that there are at most so many steps as bytes
-abbrev pub parts_after : Header → ℕ → ℕ → List Part → List ℕ → Result (List Part) Refusal
+abbrev pub parts_after : Header → ℕ → ℕ → List Part → List ℕ → Result (List Part) ContainerFault
 parts_after kind total zero earlier bytes = Ok earlier
 parts_after kind total (suc steps) earlier bytes =
     if is_zeros bytes then Ok earlier
     else (part_at kind (total - length bytes) earlier bytes >>= λ x. parts_after kind total steps (earlier ++ x.0 ∷ []) x.1)
 
 -- the parts of a container, or its first refusal
-abbrev pub parts_of : Header → List ℕ → Result (List Part) Refusal
+abbrev pub parts_of : Header → List ℕ → Result (List Part) ContainerFault
 parts_of header bytes = parts_after header (length bytes) (length bytes) [] bytes
 
--- what a fault of the reader says of the bytes
-abbrev pub refusal_of : ContainerFault → Option Refusal
-refusal_of (fault.CutHeader at) = Some (cut_header at)
-refusal_of (fault.ZeroId at) = Some (zero_id at)
-refusal_of (fault.CutBody at) = Some (cut_body at)
-refusal_of (fault.TwiceId id) = Some (twice_id id)
-refusal_of fault.Memory = None
-
--- a refusal is the definition's; want of memory, which it doesn't have, comes at any time
-abbrev pub Explains : {Y : Type 0} → Option Refusal → Result Y Refusal → Type 0
-Explains None read = Unit {0}
-Explains (Some f) read = read ≡ Err f
-
--- what the code returned, seen by view, is what is read, unless memory ran out
-abbrev pub Gives : {X Y : Type 0} → (X → Y) → Result X ContainerFault → Result Y Refusal → Type 0
-Gives view (Ok x) read = read ≡ Ok (view x)
-Gives view (Err e) read = Explains (refusal_of e) read
+-- a fault of the bytes; want of memory is none
+abbrev pub told : ContainerFault → Option ContainerFault
+told fault.Memory = None
+told other = Some other

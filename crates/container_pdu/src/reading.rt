@@ -1,7 +1,11 @@
 //! Reading a container.
-ghost use Rattle.std.specs.Prelude.{◌≡◌, ◌≢◌, ◌≤◌, ℕ, List, length, IfOk, Ok};
+ghost use Rattle.std.specs.Prelude.{◌≡◌, ◌≢◌, ◌≤◌, ◌⊎◌, ℕ, List, length, IfOk, IfErr, Ok, Err};
 ghost use Rattle.container_pdu.specs.Bytes.{IsContainer, header_bytes};
-ghost use Rattle.container_pdu.specs.Reading.{Gives, has_id, id_in, is_zeros, length_in, part_at, parts_of};
+ghost use Rattle.container_pdu.specs.Reading.{has_id, id_in, is_zeros, length_in, part_at, parts_of, told};
+ghost use Rattle.pack_model.specs.Gives.{Gives};
+ghost use Rattle.container_pdu.specs.Refusals.{Refuses};
+ghost use Rattle.container_pdu.specs.declared.fault.ContainerFault.{ContainerFault};
+ghost use Rattle.container_pdu.specs.declared.fault.ContainerFault.TheVariants as fault;
 ghost use Rattle.container_pdu.specs.declared.header.Header.TheVariants.{NoHeader};
 ghost use Rattle.container_pdu.specs.declared.part.Part.{Part};
 
@@ -57,7 +61,7 @@ fn read_part<'a>(
     earlier: &[Part],
     bytes: &'a [u8],
 ) -> Result<(Part, &'a [u8]), ContainerFault>
-    ensures exact { Gives (λ x. (x.0, x.1.now)) result (part_at header at earlier.now bytes.now) }
+    ensures exact { Gives (λ x. (x.0, x.1.now)) told result (part_at header at earlier.now bytes.now) }
     ensures shorter { IfOk result (λ x. length x.1.now ≤ length bytes.now) }
 {
     let header_length = header.bytes() as usize;
@@ -88,18 +92,19 @@ pub fn read_container(
     header: Header,
 ) -> Result<Vec<Part>, ContainerFault>
     requires { header ≢ NoHeader }
-    // The parts of the bytes, or the first refusal.
-    ensures exact { Gives (λ v. v.items) result (parts_of header payload.now) }
-    // The bytes are those of the parts with their headers, and zeros.
+    // The bytes are those of the parts with their headers, and zeros; or what is wrong with them behind the parts at
+    // their front is the fault.
     ensures found { IfOk result (λ v. IsContainer header v.items payload.now) }
-    // Parts whose bytes with their headers and zeros these are, are read, unless memory runs out.
-    ensures only { (parts : List Part) → IsContainer header parts payload.now → Gives (λ v. v.items) result (Ok parts) }
+    ensures refused { IfErr result (λ e. (e ≡ fault.Memory) ⊎ Refuses header payload.now e) }
+    // Each container is read and each wrong one is refused, unless memory runs out.
+    ensures reads { (parts : List Part) → IsContainer header parts payload.now → Gives (λ v. v.items) told result (Ok parts) }
+    ensures refuses { (why : ContainerFault) → Refuses header payload.now why → Gives (λ v. v.items) told result (Err why) }
 {
     read_parts(alloc, payload, header)
 }
 
 fn read_parts(alloc: Global, payload: &[u8], header: Header) -> Result<Vec<Part>, ContainerFault>
-    ensures { Gives (λ v. v.items) result (parts_of header payload.now) }
+    ensures { Gives (λ v. v.items) told result (parts_of header payload.now) }
 {
     let mut parts = Vec::new(alloc);
     let mut rest = payload;

@@ -1,7 +1,6 @@
 //! Writing a container.
-ghost use Rattle.std.specs.Prelude.{◌≡◌, ◌≤◌, ◌<◌, ◌++◌, length, IfOk, OnOk, Ok};
-ghost use Rattle.container_pdu.specs.Bytes.{Fits, container_text, header_text, length_limit, part_text};
-ghost use Rattle.container_pdu.specs.Reading.{parts_of};
+ghost use Rattle.std.specs.Prelude.{◌≡◌, ◌≤◌, ◌<◌, ◌++◌, length, IfOk, OnOk};
+ghost use Rattle.container_pdu.specs.Bytes.{Fits, IsContainer, container_text, header_text, length_limit, part_text};
 
 use crate::header::Header;
 use crate::part::Part;
@@ -50,7 +49,7 @@ pub fn write_container(
     requires small { size ≤ 64 }
     ensures exact { IfOk result (λ v. v.items ≡ container_text header parts.now size) }
     // `read_container` of the bytes gives the same parts.
-    ensures reads_back { IfOk result (λ v. parts_of header v.items ≡ Ok parts.now) }
+    ensures reads_back { IfOk result (λ v. IsContainer header parts.now v.items) }
 {
     container_of(alloc, header, parts, size)
 }

@@ -4,7 +4,8 @@ ghost use Rattle.std.specs.Str.{bytes_eq};
 ghost use Rattle.std.specs.Cmp.Lexicographic.{pointwise};
 ghost use Rattle.csv.specs.Records.{fields_of};
 ghost use Rattle.csv_table.specs.Columns.{is_row, field_in, count_in, name_in, number_in, optional_in};
-ghost use Rattle.csv_table.specs.Gives.{Gives, column_of};
+ghost use Rattle.csv_table.specs.Gives.{column_of};
+ghost use Rattle.pack_model.specs.Gives.{Gives};
 
 use crate::decimal::decimal_in;
 use csv::ByteRecord;

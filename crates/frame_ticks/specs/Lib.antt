@@ -1,4 +1,5 @@
 pub mod Bits
+pub mod Laws
 pub mod Line
 pub mod Stuffing
 pub mod Ticks

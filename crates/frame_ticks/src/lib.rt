@@ -7,11 +7,13 @@
 
 mod bits;
 mod frame;
+mod laws;
 mod line;
 mod worst;
 
 pub use bits::frame_bits;
 pub use frame::{real_ticks, stuffed_ticks};
+pub use laws::stuffing_is_exact;
 pub use worst::{MAX_TICKS, worst_ticks};
 
 #[cfg(test)]

@@ -12,7 +12,7 @@ use Rattle.serde_json.specs.Find.{as_number, as_object, as_u64, get}
 use Rattle.pack_model.specs.Network.{NetworkStands}
 use Rattle.pack_model.specs.declared.network.Network.{Network}
 use Rattle.csv_table.specs.Columns.{◌>>=◌, or_error}
-use Rattle.csv_table.specs.Gives.{Gives}
+use Rattle.pack_model.specs.Gives.{Gives}
 use Rattle.csv_table.proofs.Ranges.{Within}
 use Rattle.input_text.specs.declared.network.NetworkFault.{NetworkFault}
 use Rattle.input_text.specs.NetworkText.{NetworkRefusal, not_json, bad_member, in_range, member_in, network_in, network_of, network_refusal, none_further, value_in}

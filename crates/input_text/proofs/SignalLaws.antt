@@ -12,7 +12,7 @@ use Rattle.csv_table.specs.Columns.{◌>>=◌, in_row, begins_with, count_in, na
 use Rattle.csv_table.specs.Rows.{rows_of}
 use Rattle.csv_table.proofs.Ranges.{Within, name_back, name_named, number_back, number_within, optional_back, optional_within}
 use Rattle.csv_table.proofs.RoundTrip.{map_read_back, rows_of-rows_text}
-use Rattle.csv_table.specs.Gives.{Gives}
+use Rattle.pack_model.specs.Gives.{Gives}
 use Rattle.csv_table.specs.Writing.{optional_text}
 use Rattle.input_text.specs.declared.signals.SignalsFault.{SignalsFault}
 use Rattle.input_text.specs.SignalsText.{signals_refusal, SignalsRefusal, bad_header, too_many, bad_row, ReadsBack, signal_fields, signal_of, signals_from, signals_header, signals_in, signals_of, signals_text}

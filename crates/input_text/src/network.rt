@@ -4,7 +4,7 @@ ghost use Rattle.csv.specs.Reading.{strip_bom};
 ghost use Rattle.serde_json.specs.View.{members_view, view};
 ghost use Rattle.serde_json.specs.Events.{members_len};
 ghost use Rattle.csv_table.specs.Columns.{or_error};
-ghost use Rattle.csv_table.specs.Gives.{Gives};
+ghost use Rattle.pack_model.specs.Gives.{Gives};
 ghost use Rattle.pack_model.specs.Network.{NetworkStands};
 ghost use Rattle.input_text.specs.NetworkText.{NetworkText, member_in, network_in, network_of, network_refusal, network_text, not_json, none_further, value_in};
 

@@ -2,8 +2,9 @@
 ghost use Rattle.std.specs.Prelude.{◌≡◌, ◌≤◌, ◌++◌, [], length, map, All, IfOk, OnOk, Ok};
 ghost use Rattle.csv.specs.Records.{fields_of};
 ghost use Rattle.csv.specs.Writing.{default_writer, row_text};
-ghost use Rattle.csv_table.specs.Gives.{Gives, column_of};
+ghost use Rattle.csv_table.specs.Gives.{column_of};
 ghost use Rattle.csv_table.specs.Writing.{rows_text};
+ghost use Rattle.pack_model.specs.Gives.{Gives};
 ghost use Rattle.pack_model.specs.Signal.{SignalStands};
 ghost use Rattle.input_text.specs.SignalsText.{ReadsBack, SignalsText, signal_fields, signal_of, signals_from, signals_of, signals_refusal, signals_text};
 ghost use Rattle.input_text.specs.declared.signals.SignalsFault.TheVariants as fault;

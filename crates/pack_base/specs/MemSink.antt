@@ -1,5 +1,5 @@
 -- What a sink in memory was told and counts.
-use Rattle.std.specs.Prelude.{◌≡◌, ℕ, List, [], Option, Some}
+use Rattle.std.specs.Prelude.{◌≡◌, ℕ, List, [], Option, None, Some}
 use Rattle.pack_base.specs.Failures.{IsNextListed, IsNextCall}
 use Rattle.pack_base.specs.declared.mem_sink.MemSink.{MemSink}
 
@@ -29,6 +29,7 @@ CallMade old new = IsNextCall old.failures new.failures
 -- the same was said, no call of it was made, and no count changed
 pub record SameButListed (old new : MemSink) : Type 0 where
   pub said : new.said.items ≡ old.said.items
+  pub from : new.failures.from ≡ old.failures.from
   pub made : new.failures.made ≡ old.failures.made
   pub faults : new.faults ≡ old.faults
   pub refused : new.refused ≡ old.refused
@@ -37,6 +38,7 @@ pub record SameButListed (old new : MemSink) : Type 0 where
 pub record IsNewSink (sink : MemSink) : Type 0 where
   pub said : sink.said.items ≡ []
   pub listed : sink.failures.numbers.items ≡ []
+  pub from : sink.failures.from ≡ None
   pub made : sink.failures.made ≡ 0
   pub faults : sink.faults ≡ 0
   pub refused : sink.refused ≡ 0

@@ -53,6 +53,11 @@ pub record Later {F : Type 0} (read_faults write_faults given : F → List ℕ �
   pub write : (name : List ℕ) → write_faults old name ≤ write_faults new name
   pub gave : (name : List ℕ) → given old name ≤ given new name
 
+-- No read and no write of any name failed.
+pub record SameFaults {F : Type 0} (read_faults write_faults : F → List ℕ → ℕ) (old new : F) : Type 0 where
+  pub read : (name : List ℕ) → read_faults new name ≡ read_faults old name
+  pub write : (name : List ℕ) → write_faults new name ≡ write_faults old name
+
 -- what was said, where it is told, with these bytes behind it
 abbrev pub and_said : Option (List ℕ) → List ℕ → Option (List ℕ)
 and_said said bytes = option_map (λ front. front ++ bytes) said

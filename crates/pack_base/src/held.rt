@@ -1,14 +1,15 @@
-// Files in memory, by name.
-ghost use Rattle.std.specs.Prelude.{◌≡◌, ◌≤◌, Some, OnOk, OnErr, length};
+//! Files in memory, by name.
+ghost use Rattle.std.specs.Prelude.{◌≡◌, ◌≤◌, ◌-◌, Some, OnOk, OnErr, length, min};
 ghost use Rattle.pack_base.specs.Held.{IsSame, held_at};
 ghost use Rattle.pack_base.specs.Outside.{Appended, Changes, Holds, ReadsAt};
 
 use std::alloc::{AllocError, Global};
 use std::collections::HashMap;
 
-/// Copies the bytes of a file from a place on into the front of a buffer, and answers how many.
-pub fn copy_piece(file: &[u8], at: u64, buf: &mut [u8]) -> usize
-    ensures count { result ≤ length buf.old }
+/// Copies the bytes of a file from a place on into the front of a buffer, at most so many, and answers how many.
+pub fn copy_piece(file: &[u8], at: u64, most: usize, buf: &mut [u8]) -> usize
+    requires { 1 ≤ most }
+    ensures count { result ≡ min (length file.now - at) (min (length buf.old) most) }
     ensures bytes { ReadsAt file.now at result buf.new }
 {
     let length = file.len() as u64;
@@ -16,7 +17,7 @@ pub fn copy_piece(file: &[u8], at: u64, buf: &mut [u8]) -> usize
         return 0;
     }
     let rest = &file[at as usize..];
-    let count = rest.len().min(buf.len());
+    let count = rest.len().min(buf.len().min(most));
     buf[..count].copy_from_slice(&rest[..count]);
     count
 }

@@ -1,9 +1,10 @@
-// A folder in memory, which fails where it is told to.
+//! A folder in memory, which fails where it is told to.
 ghost use Rattle.std.specs.Prelude.{
   ◌≡◌,
   ◌≤◌,
   ◌<◌,
   ◌^◌,
+  ◌-◌,
   ◌↔◌,
   ◌⊎◌,
   ◌++◌,
@@ -13,11 +14,13 @@ ghost use Rattle.std.specs.Prelude.{
   Some,
   IsSome,
   IsNone,
+  IsOk,
   IsErr,
   IfOk,
   OnOk,
   OnErr,
   length,
+  min,
   option_map,
 };
 ghost use Rattle.std.specs.Option.{option_copied};
@@ -30,6 +33,7 @@ ghost use Rattle.pack_base.specs.Outside.{
   PartAppended,
   PartMade,
   ReadsAt,
+  SameFaults,
   bytes_at,
   file_at,
 };
@@ -41,8 +45,8 @@ use pack_model::Memory;
 use std::alloc::Global;
 use std::collections::HashMap;
 
-/// Files in memory. Calls of `Folder` fail where `fail_at` lists their number, and a read fails for a name that
-/// isn't there. A creation or an append also fails for want of memory, which `refused` counts.
+/// Files in memory. Calls of `Folder` fail where `fail_at` or `fail_from` lists their number, and a read fails for
+/// a name that isn't there. A creation or an append also fails for want of memory, which `refused` counts.
 #[derive(Drop)]
 pub struct MemFolder {
     alloc: Global,
@@ -52,10 +56,23 @@ pub struct MemFolder {
     write_faults: u64,
     given: u64,
     refused: u64,
+    /// How many bytes a read gives at most.
+    most: usize,
+    ghost reads_give: { 1 ≤ most },
 }
 
 impl MemFolder {
-    ghost use Rattle.pack_base.specs.MemFolder.{IsNewFolder, SameCounts, files_of, listed_of, refused_of};
+    ghost use Rattle.pack_base.specs.Failures.{earlier};
+    ghost use Rattle.pack_base.specs.MemFolder.{
+      IsNewFolder,
+      SameCounts,
+      SameSettings,
+      files_of,
+      from_of,
+      listed_of,
+      most_of,
+      refused_of,
+    };
 
     /// A folder without files, whose calls all succeed so far.
     pub fn new(alloc: Global) -> MemFolder
@@ -69,6 +86,7 @@ impl MemFolder {
             write_faults: 0,
             given: 0,
             refused: 0,
+            most: usize::MAX,
         }
     }
 
@@ -76,7 +94,7 @@ impl MemFolder {
     pub fn put(&mut self, name: &str, bytes: &[u8]) -> Result<(), Memory>
         ensures ok { OnOk result (Changes name.now (Holds bytes.now) (files_of self.old) (files_of self.new)) }
         ensures err { OnErr result (Changes name.now (λ before now. now ≡ before) (files_of self.old) (files_of self.new)) }
-        ensures listed { listed_of self.new ≡ listed_of self.old }
+        ensures settings { SameSettings self.old self.new }
         ensures counts { SameCounts self.old self.new }
     {
         hold(self.alloc, &mut self.files, name, bytes)?;
@@ -87,10 +105,37 @@ impl MemFolder {
     pub fn fail_at(&mut self, call: u64) -> Result<(), Memory>
         ensures ok { OnOk result (listed_of self.new ≡ listed_of self.old ++ call ∷ []) }
         ensures err { OnErr result (listed_of self.new ≡ listed_of self.old) }
+        ensures from { from_of self.new ≡ from_of self.old }
+        ensures most { most_of self.new ≡ most_of self.old }
         ensures files { files_of self.new ≡ files_of self.old }
         ensures counts { SameCounts self.old self.new }
     {
         self.failures.list(call)
+    }
+
+    /// Lets each call of `Folder` from this number on fail, counted from 1 over its three calls. It takes no memory.
+    pub fn fail_from(&mut self, call: u64) -> Result<(), Memory>
+        ensures ok { IsOk result }
+        ensures from { from_of self.new ≡ Some (earlier (from_of self.old) call) }
+        ensures listed { listed_of self.new ≡ listed_of self.old }
+        ensures most { most_of self.new ≡ most_of self.old }
+        ensures files { files_of self.new ≡ files_of self.old }
+        ensures counts { SameCounts self.old self.new }
+    {
+        self.failures.list_from(call);
+        Ok(())
+    }
+
+    /// Lets each `read_at` give at most so many bytes.
+    pub fn short_reads(&mut self, most: usize)
+        requires { 1 ≤ most }
+        ensures most { most_of self.new ≡ most }
+        ensures listed { listed_of self.new ≡ listed_of self.old }
+        ensures from { from_of self.new ≡ from_of self.old }
+        ensures files { files_of self.new ≡ files_of self.old }
+        ensures counts { SameCounts self.old self.new }
+    {
+        self.most = most;
     }
 
     /// The bytes of a file, or `None` where there is none of this name.
@@ -117,7 +162,7 @@ impl Folder for MemFolder {
       FailsNext,
       files_of,
       given_by,
-      listed_of,
+      most_of,
       read_faults_of,
       refused_of,
       write_faults_of,
@@ -140,6 +185,11 @@ impl Folder for MemFolder {
         ensures none_given { OnErr result (given_by self.new name.now ≡ given_by self.old name.now) }
         ensures later { Later read_faults_of write_faults_of given_by self.old self.new }
         ensures cause { HasCause (read_faults_of self.old name.now) (read_faults_of self.new name.now) result }
+        ensures quiet { OnOk result (SameFaults read_faults_of write_faults_of self.old self.new) }
+
+        // It gives as many bytes as there are, up to the room and the most that a read gives.
+        ensures length { IfOk result (λ n. n ≡ min (length (bytes_at (files_of self.old) name.now) - at)
+            (min (length buf.old) (most_of self.old))) }
 
         // It fails exactly at a listed call, and for a name that isn't there.
         ensures fails { IsErr result ↔ (FailsNext self.old ⊎ IsNone (file_at (files_of self.old) name.now)) }
@@ -149,7 +199,7 @@ impl Folder for MemFolder {
         let fails = self.failures.next_fails();
         match self.files.get(name) {
             Some(file) if !fails => {
-                let count = copy_piece(file.as_slice(), at, buf);
+                let count = copy_piece(file.as_slice(), at, self.most, buf);
                 self.given = self.given.saturating_add(count as u64);
                 Ok(count)
             }
@@ -165,6 +215,7 @@ impl Folder for MemFolder {
         ensures failed { OnErr result (Changes name.now PartMade (files_of self.old) (files_of self.new)) }
         ensures later { Later read_faults_of write_faults_of given_by self.old self.new }
         ensures cause { HasCause (write_faults_of self.old name.now) (write_faults_of self.new name.now) result }
+        ensures quiet { OnOk result (SameFaults read_faults_of write_faults_of self.old self.new) }
 
         // It fails exactly at a listed call, or where a growth was refused.
         ensures listed { FailsNext self.old → IsErr result }
@@ -191,6 +242,7 @@ impl Folder for MemFolder {
         ensures failed { OnErr result (Changes name.now (PartAppended bytes.now) (files_of self.old) (files_of self.new)) }
         ensures later { Later read_faults_of write_faults_of given_by self.old self.new }
         ensures cause { HasCause (write_faults_of self.old name.now) (write_faults_of self.new name.now) result }
+        ensures quiet { OnOk result (SameFaults read_faults_of write_faults_of self.old self.new) }
 
         // It fails exactly at a listed call, or where a growth was refused.
         ensures listed { FailsNext self.old → IsErr result }

@@ -1,4 +1,4 @@
-// A sink in memory, which fails where it is told to.
+//! A sink in memory, which fails where it is told to.
 ghost use Rattle.std.specs.Prelude.{◌≡◌, ◌≤◌, ◌⊎◌, ◌++◌, ◌∷◌, [], Some, IsErr, OnOk, OnErr};
 ghost use Rattle.pack_base.specs.Counts.{HasCause, Rose};
 ghost use Rattle.pack_base.specs.Outside.{SaidPart, and_said};
@@ -69,6 +69,7 @@ impl Sink for MemSink {
         ensures part { OnErr result (SaidPart bytes.now (said_to self.old) (said_to self.new)) }
         ensures later { faults_of self.old ≤ faults_of self.new }
         ensures cause { HasCause (faults_of self.old) (faults_of self.new) result }
+        ensures quiet { OnOk result (faults_of self.new ≡ faults_of self.old) }
 
         // It fails exactly at a listed call, or where a growth was refused.
         ensures listed { FailsNext self.old → IsErr result }

@@ -1,4 +1,4 @@
-// A sink that takes everything.
+//! A sink that takes everything.
 ghost use Rattle.std.specs.Prelude.{◌≡◌, ◌≤◌, None, IsOk, OnOk, OnErr};
 ghost use Rattle.pack_base.specs.Counts.{HasCause};
 ghost use Rattle.pack_base.specs.Outside.{SaidPart, and_said};

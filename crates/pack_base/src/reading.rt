@@ -1,7 +1,7 @@
-// Reading a whole file through a folder, up to a limit.
+//! Reading a whole file through a folder, up to a limit.
 ghost use Rattle.std.specs.Prelude.{◌≡◌, ◌≤◌, ◌<◌, ◌^◌, ◌+◌, IsSome, IfOk, IsErrOf, length};
 ghost use Rattle.pack_base.specs.Counts.{GrewBy, Rose};
-ghost use Rattle.pack_base.specs.Outside.{Later, bytes_at};
+ghost use Rattle.pack_base.specs.Outside.{Later, SameFaults, bytes_at};
 
 use crate::outside::{Failed, Folder};
 use std::alloc::{AllocError, AllocFailed, Global};
@@ -72,6 +72,8 @@ pub fn read_whole<F: Folder>(
         → limit < length (bytes_at (F.files folder.old) name.now) }
 
     ensures files { F.files folder.new ≡ F.files folder.old }
+    ensures quiet { (IsErrOf result ReadWhole.ReadFault → ⊥)
+        → SameFaults F.read_faults F.write_faults folder.old folder.new }
     ensures later { Later F.read_faults F.write_faults F.given folder.old folder.new }
 {
     let mut text = Vec::new(alloc);

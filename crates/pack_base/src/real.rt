@@ -1,9 +1,12 @@
-// The real files and the standard output. No clause says what they hold.
-ghost use Rattle.std.specs.Prelude.{◌≡◌, ◌≤◌, ℕ, List, None, IfOk, length};
+//! The real files and the standard output. No clause says what they hold. What moves between them and a buffer is
+//! said over any reader and writer.
+ghost use Rattle.std.specs.Prelude.{◌≡◌, ◌≢◌, ◌≤◌, ℕ, List, None, IfOk, IfErr, OnOk, length};
+ghost use Rattle.std.specs.IoError.{error_kind};
+ghost use Rattle.std.specs.Io.KnownBytes.{Appends, ReadConsumes};
 
 use crate::outside::{Failed, Folder, Sink};
-use std::fs::OpenOptions;
-use std::io::{Read, Seek, SeekFrom, Write};
+use std::fs::{OpenFile, OpenOptions};
+use std::io::{ErrorKind, Read, Seek, SeekFrom, Write};
 use std::rt::Files;
 use std::{fs, io};
 
@@ -32,20 +35,61 @@ impl<R: Files + Drop> RealFolder<R> {
     }
 }
 
+/// One read, tried again where a signal interrupts it.
+pub(crate) fn read_some<R: Read>(reader: &mut R, buf: &mut [u8]) -> io::Result<usize>
+    ensures count { IfOk result (λ n. n ≤ length buf.old) }
+    ensures bytes { ReadConsumes (R.remaining reader.old) (R.remaining reader.new) result buf.new }
+    ensures retried { IfErr result (λ e. error_kind e ≢ ErrorKind.Interrupted) }
+{
+    for _ in 0..u64::MAX {
+        match reader.read(buf) {
+            Ok(count) => return Ok(count),
+            Err(e) => {
+                if e.kind() != ErrorKind::Interrupted {
+                    return Err(e);
+                }
+            }
+        }
+    }
+    Err(io::Error::from(ErrorKind::TimedOut))
+}
+
+/// Writes all bytes, in as many writes as it takes, and then what the writer held back.
+fn write_whole<W: Write>(writer: &mut W, bytes: &[u8]) -> io::Result<()>
+    ensures { OnOk result (Appends (W.contents writer.old) (W.contents writer.new) bytes.now) }
+{
+    writer.write_all(bytes)?;
+    writer.flush()
+}
+
+/// Writes what a file took through to its medium, so that an error of that is seen before the file is closed.
+/// A pipe or a device has no such call.
+fn write_through<F: OpenFile>(file: &F) -> io::Result<()> {
+    if file.metadata()?.is_file() {
+        file.sync_all()?;
+    }
+    Ok(())
+}
+
 fn read_piece<R: Files>(rt: &R, name: &str, at: u64, buf: &mut [u8]) -> io::Result<usize>
     ensures { IfOk result (λ n. n ≤ length buf.old) }
 {
     let mut file = fs::open(rt, name)?;
     file.seek(SeekFrom::Start(at))?;
-    file.read(buf)
+    read_some(&mut file, buf)
+}
+
+fn create_empty<R: Files>(rt: &R, name: &str) -> io::Result<()> {
+    let file = fs::create(rt, name)?;
+    write_through(&file)
 }
 
 fn append_all<R: Files>(rt: &R, name: &str, bytes: &[u8]) -> io::Result<()> {
     let mut options = OpenOptions::new();
     options.append(true).create(true);
     let mut file = options.open(rt, name)?;
-    file.write_all(bytes)?;
-    file.flush()
+    write_whole(&mut file, bytes)?;
+    write_through(&file)
 }
 
 impl<R: Files + Drop> Folder for RealFolder<R> {
@@ -71,8 +115,8 @@ impl<R: Files + Drop> Folder for RealFolder<R> {
     }
 
     fn create(&mut self, name: &str) -> Result<(), Failed> {
-        match fs::create(&self.rt, name) {
-            Ok(_) => Ok(()),
+        match create_empty(&self.rt, name) {
+            Ok(()) => Ok(()),
             Err(_) => {
                 self.write_faults = self.write_faults.saturating_add(1);
                 Err(Failed)
@@ -109,8 +153,7 @@ impl<R: Print + Drop> RealOut<R> {
 
 fn write_out<R: Print>(rt: &R, bytes: &[u8]) -> io::Result<()> {
     let mut out = io::writer(rt);
-    out.write_all(bytes)?;
-    out.flush()
+    write_whole(&mut out, bytes)
 }
 
 impl<R: Print + Drop> Sink for RealOut<R> {

@@ -1,7 +1,7 @@
-// A folder in memory whose reads never fail.
+//! A folder in memory whose reads never fail.
 ghost use Rattle.std.specs.Prelude.{◌≡◌, ◌≤◌, ◌<◌, ◌^◌, [], None, Some, IsSome, IsOk, IsErr, IfOk, OnOk, OnErr, length};
 ghost use Rattle.pack_base.specs.Counts.{counted, HasCause};
-ghost use Rattle.pack_base.specs.Outside.{Appended, Changes, Holds, Later, PartAppended, PartMade, ReadsAt, bytes_at};
+ghost use Rattle.pack_base.specs.Outside.{Appended, Changes, Holds, Later, PartAppended, PartMade, ReadsAt, SameFaults, bytes_at};
 
 use crate::held::{copy_piece, hold};
 use crate::outside::{Failed, Folder};
@@ -66,10 +66,11 @@ impl Folder for SteadyFolder {
         ensures none_given { OnErr result (given_by self.new name.now ≡ given_by self.old name.now) }
         ensures later { Later read_faults_of write_faults_of given_by self.old self.new }
         ensures cause { HasCause (read_faults_of self.old name.now) (read_faults_of self.new name.now) result }
+        ensures quiet { OnOk result (SameFaults read_faults_of write_faults_of self.old self.new) }
         ensures steady { IsOk result }
     {
         let count = match self.files.get(name) {
-            Some(file) => copy_piece(file.as_slice(), at, buf),
+            Some(file) => copy_piece(file.as_slice(), at, usize::MAX, buf),
             None => 0,
         };
         self.given = self.given.saturating_add(count as u64);
@@ -81,6 +82,7 @@ impl Folder for SteadyFolder {
         ensures failed { OnErr result (Changes name.now PartMade (files_of self.old) (files_of self.new)) }
         ensures later { Later read_faults_of write_faults_of given_by self.old self.new }
         ensures cause { HasCause (write_faults_of self.old name.now) (write_faults_of self.new name.now) result }
+        ensures quiet { OnOk result (SameFaults read_faults_of write_faults_of self.old self.new) }
         ensures refuses { IsErr result }
         ensures files { files_of self.new ≡ files_of self.old }
     {
@@ -94,6 +96,7 @@ impl Folder for SteadyFolder {
         ensures failed { OnErr result (Changes name.now (PartAppended bytes.now) (files_of self.old) (files_of self.new)) }
         ensures later { Later read_faults_of write_faults_of given_by self.old self.new }
         ensures cause { HasCause (write_faults_of self.old name.now) (write_faults_of self.new name.now) result }
+        ensures quiet { OnOk result (SameFaults read_faults_of write_faults_of self.old self.new) }
         ensures refuses { IsErr result }
         ensures files { files_of self.new ≡ files_of self.old }
     {

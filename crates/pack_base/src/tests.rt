@@ -1,8 +1,9 @@
-// Each fake once, the reading of a whole file, and the real folder on a real file.
+//! Each fake once, the reading of a whole file, and the real folder on a real file.
 use super::*;
 use std::alloc::{AllocError, Global};
-use std::fs;
+use std::io::Read;
 use std::test::Fail;
+use std::{fs, io};
 
 fn holds(folder: &MemFolder, name: &str, bytes: &[u8]) -> bool {
     match folder.get(name) {
@@ -31,6 +32,19 @@ fn files_in_memory(rt: HostRuntime) -> Result<(), Fail> {
     assert!(rt; holds(&folder, "m", b"x"));
     assert_eq!(rt; folder.read_at("none", 0, &mut piece), Err(Failed));
     assert_eq!(rt; folder.refused(), 0);
+    Ok(())
+}
+
+#[test]
+fn short_reads_and_a_front_of_calls(rt: HostRuntime) -> Result<(), Fail> {
+    let mut folder = MemFolder::new(rt.alloc());
+    folder.put("n", b"abc").map_err(|_| "memory")?;
+    folder.short_reads(1);
+    folder.fail_from(3).map_err(|_| "memory")?;
+    let mut piece = [0u8; 2];
+    for want in [Ok(1), Ok(1), Err(Failed), Err(Failed)] {
+        assert_eq!(rt; folder.read_at("n", 1, &mut piece), want);
+    }
     Ok(())
 }
 
@@ -100,6 +114,34 @@ fn steady_files_and_no_lines(rt: HostRuntime) -> Result<(), Fail> {
     Ok(())
 }
 
+// A reader that signals interrupt so many times before it gives a byte.
+#[derive(Drop)]
+struct Interrupted(u8);
+
+impl Read for Interrupted {
+    fn read(&mut self, buf: &mut [u8]) -> io::Result<usize> {
+        if self.0 > 0 {
+            self.0 -= 1;
+            return Err(io::Error::from(io::ErrorKind::Interrupted));
+        }
+        match buf.first_mut() {
+            Some(first) => {
+                *first = 7;
+                Ok(1)
+            }
+            None => Ok(0),
+        }
+    }
+}
+
+#[test]
+fn interrupted_reads(rt: HostRuntime) -> Result<(), Fail> {
+    let mut piece = [0u8; 2];
+    assert_eq!(rt; real::read_some(&mut Interrupted(3), &mut piece)?, 1);
+    assert_eq!(rt; piece.as_slice(), [7, 0].as_slice());
+    Ok(())
+}
+
 #[test]
 fn real_files(rt: HostRuntime) -> Result<(), Fail> {
     let name = "pack_base_real_files";
@@ -115,5 +157,18 @@ fn real_files(rt: HostRuntime) -> Result<(), Fail> {
     assert_eq!(rt; folder.create("no such folder/x"), Err(Failed));
     let mut out = RealOut::new(rt.clone()?);
     assert_eq!(rt; out.say(b"said\n"), Ok(()));
+    Ok(())
+}
+
+#[test]
+fn real_file_over_a_longer_one(rt: HostRuntime) -> Result<(), Fail> {
+    let name = "pack_base_real_file_over_a_longer_one";
+    let mut folder = RealFolder::new(rt.clone()?);
+    for bytes in [b"abcde".as_slice(), b"fg".as_slice()] {
+        assert_eq!(rt; folder.create(name), Ok(()));
+        assert_eq!(rt; folder.append(name, bytes), Ok(()));
+    }
+    assert_eq!(rt; fs::read(&rt, name)?.as_slice(), b"fg".as_slice());
+    fs::remove_file(&rt, name)?;
     Ok(())
 }

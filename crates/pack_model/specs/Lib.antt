@@ -1,3 +1,4 @@
+pub mod Gives
 pub mod Items
 pub mod Name
 pub mod Network

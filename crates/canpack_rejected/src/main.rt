@@ -1,0 +1,1 @@
+../../canpack/src/main.rt
