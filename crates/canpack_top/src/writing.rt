@@ -1,8 +1,9 @@
 //! Writing whole texts to two files.
-ghost use Rattle.std.specs.Prelude.{◌≢◌, OnOk, OnErr};
+ghost use Rattle.std.specs.Prelude.{◌≢◌, [], ◌∷◌, OnOk, OnErr};
 ghost use Rattle.pack_base.specs.Counts.{HasCause};
 ghost use Rattle.pack_base.specs.Outside.{Changes, Holds, Later};
-ghost use Rattle.canpack_top.specs.Write.{HoldsFront, PartWritten, WriteFaults, Written};
+ghost use Rattle.canpack_top.specs.Reads.{SomeRose};
+ghost use Rattle.canpack_top.specs.Write.{HoldsFront, PartWritten, Written};
 
 use pack_base::{Failed, Folder};
 
@@ -30,7 +31,7 @@ pub fn write_both<F: Folder>(
     ensures ok { OnOk result (Written first.now second.now first_text.now second_text.now (F.files folder.old) (F.files folder.new)) }
     ensures err { OnErr result (PartWritten first.now second.now first_text.now second_text.now (F.files folder.old) (F.files folder.new)) }
     ensures later { Later F.read_faults F.write_faults F.given folder.old folder.new }
-    ensures cause { OnErr result (WriteFaults first.now second.now (F.write_faults folder.old) (F.write_faults folder.new)) }
+    ensures cause { OnErr result (SomeRose (first.now ∷ second.now ∷ []) (F.write_faults folder.old) (F.write_faults folder.new)) }
 {
     write_file(folder, first, first_text)?;
     write_file(folder, second, second_text)?;
