@@ -11,7 +11,7 @@ use Rattle.busy_period.specs.Timed.{IsInRange}
 use Rattle.busy_period.specs.Stage.{IsStage}
 use Rattle.busy_period.specs.Checked.{is_in_range, are_distinct, is_stage}
 
-in_range_from_test : (frame : Timed) → is_in_range frame ≡ true → IsInRange frame
+pub in_range_from_test : (frame : Timed) → is_in_range frame ≡ true → IsInRange frame
 in_range_from_test frame it =
     record {
       some_period = grind (arith, common_steps);
