@@ -24,9 +24,9 @@ head_apart x z xs distinct in' is =
 -- the test of numbers that are not the same
 pub differ : (x y : ℕ) → (x ≡ y → ⊥) → nat_eq x y ≡ false
 differ x y apart = elim (nat_eq x y) as (λ b. nat_eq x y ≡ b → nat_eq x y ≡ false) [
-    | true ↦ λ is. absurd (apart (eqb-true x y is))
-    | false ↦ λ is. is
-  ] refl
+  | true ↦ λ is. absurd (apart (eqb-true x y is))
+  | false ↦ λ is. is
+] refl
 
 -- a number that is not among numbers without repeats may go before them
 pub IsDistinct-absent : (x : ℕ) (xs : List ℕ) → IsDistinct nat_eq xs → (¬ (Contains xs x)) → IsDistinct nat_eq (x ∷ xs)

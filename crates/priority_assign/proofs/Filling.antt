@@ -89,7 +89,7 @@ rest_from_can_take frames bit xs placed index given names placed_names inside it
     (below frames xs own names (index, inside, get_or_default xs index own 0 inside))
     (IsDistinct-tail nat_eq own (remove xs index) (apart_distinct xs index inside names.distinct))
     (λ z in'. let there : Contains (others_of own xs) z = rest_are xs index z inside names.distinct in' in
-      (below frames xs z names (others_are own xs z there).0, there))
+    (below frames xs z names (others_are own xs z there).0, there))
     (λ z in'. (below frames placed z placed_names in', inl in'))
     it
 
@@ -102,7 +102,7 @@ can_take_permuted frames bit xs ys placed own given names placed_names same in' 
     (below frames ys own names in')
     (others_distinct own ys names.distinct)
     (λ z among. let other : Contains ys z × (own ≡ z → ⊥) = others_are own ys z among in
-      (below frames ys z names other.0, others_have own xs z (Contains-permutation ys xs z same other.0) other.1))
+    (below frames ys z names other.0, others_have own xs z (Contains-permutation ys xs z same other.0) other.1))
     (λ z among. (below frames placed z placed_names among, inl among))
     it
 
@@ -166,14 +166,26 @@ rest_ascending xs index inside ascending k within =
     let pairs : AllPairs (λ x y. x < y) xs = AllPairs-from_increasing xs ascending in
     elim (cases_lt (k + 1) index) [
       | inl before ↦
-          omega (arith, get_or-remove_below xs index 0 k (omega arith) inside, get_or-remove_below xs index 0 (k + 1) before inside,
-              pairs k (k + 1) 0 (omega arith) (omega arith))
+          omega (
+            arith,
+            get_or-remove_below xs index 0 k (omega arith) inside,
+            get_or-remove_below xs index 0 (k + 1) before inside,
+            pairs k (k + 1) 0 (omega arith) (omega arith),
+          )
       | inr not_before ↦ elim (cases_lt k index) [
         | inl across ↦
-            omega (arith, get_or-remove_below xs index 0 k across inside, get_or-remove_above xs index 0 (k + 1) (omega arith) inside,
-                pairs k (k + 1 + 1) 0 (omega arith) (omega arith))
+            omega (
+              arith,
+              get_or-remove_below xs index 0 k across inside,
+              get_or-remove_above xs index 0 (k + 1) (omega arith) inside,
+              pairs k (k + 1 + 1) 0 (omega arith) (omega arith),
+            )
         | inr after ↦
-            omega (arith, get_or-remove_above xs index 0 k (omega arith) inside, get_or-remove_above xs index 0 (k + 1) (omega arith) inside,
-                pairs (k + 1) (k + 1 + 1) 0 (omega arith) (omega arith))
+            omega (
+              arith,
+              get_or-remove_above xs index 0 k (omega arith) inside,
+              get_or-remove_above xs index 0 (k + 1) (omega arith) inside,
+              pairs (k + 1) (k + 1 + 1) 0 (omega arith) (omega arith),
+            )
       ]
     ]

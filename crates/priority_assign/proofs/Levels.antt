@@ -68,13 +68,18 @@ fits_if_passes frames level blocked bit index named inside it =
     let range : IsInRange (frame_at frames own) = named_is_in_range frames level index named inside in
     let now : busy + 0 ≡ busy = add-zero busy in
     let work : work_of frames (remove level index) (busy + 0) ≡ work_of frames (remove level index) busy = ap (work_of frames (remove level index)) now in
-    let asked : asks own ≡ asks_of (frame_at frames own) busy = ap (asks_of (frame_at frames own)) now in
-    (
+    let asked : asks own ≡ asks_of (frame_at frames own) busy = ap (asks_of (frame_at frames own)) now in (
       busy,
       record {
         begun = it.least.busy.holds.some;
-        done = omega (arith, it.least.busy.holds.done, sum_by-IsPermutation asks level (own ∷ remove level index) same,
-            sum_by-cons asks own (remove level index), work, asked);
+        done = omega (
+          arith,
+          it.least.busy.holds.done,
+          sum_by-IsPermutation asks level (own ∷ remove level index) same,
+          sum_by-cons asks own (remove level index),
+          work,
+          asked,
+        );
       },
       omega (arith, it.least.short, range.period),
     )

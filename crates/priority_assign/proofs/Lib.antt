@@ -2,3 +2,4 @@ pub mod Moved
 pub mod Levels
 pub mod Filling
 pub mod Steps
+pub mod Checks

@@ -63,42 +63,31 @@ moved_last-swap xs now next index last is before was same_length swapped =
     same_lists next (moved_last xs index)
     (omega (arith, same_length, ap length was, length-moved_last xs (index + 1) inside', length-moved_last xs index inside))
     (λ k d within.
-      let k_inside : k < length xs = omega (arith, within, same_length, ap length was, length-moved_last xs (index + 1) inside') in
-      elim (cases_lt k index) [
-        | inl less ↦
-            swapped.2 k d (omega arith) (omega arith) ∙ ap (λ l. get_or l k d) was ∙ below xs (index + 1) k d inside' (omega arith)
-                ∙ sym (below xs index k d inside less)
-        | inr not_less ↦ elim (cases_lt index k) [
-          | inl more ↦ elim (cases_lt k last) [
-            | inl early ↦
-                swapped.2 k d (omega arith) (omega arith) ∙ ap (λ l. get_or l k d) was
-                    ∙ above xs (index + 1) k d inside' (omega arith) (omega arith) ∙ sym (above xs index k d inside (omega arith) (omega arith))
-            | inr late ↦
-                let at : k ≡ last = omega arith in
-                ap (λ i. get_or next i d) at ∙ swapped.1 d ∙ ap (λ l. get_or l index d) was ∙ below xs (index + 1) index d inside' (omega arith)
-                    ∙ get_or_default xs index d 0 inside ∙ sym (moved_last-own xs index last is inside)
-                    ∙ get_or_default (moved_last xs index) last 0 d (omega (arith, length-moved_last xs index inside))
-                    ∙ ap (λ i. get_or (moved_last xs index) i d) (sym at)
-          ]
-          | inr not_more ↦
-              let at : k ≡ index = omega arith in
-              ap (λ i. get_or next i d) at ∙ swapped.0 d ∙ ap (λ l. get_or l last d) was
-                  ∙ get_or_default (moved_last xs (index + 1)) last d 0 (omega (arith, length-moved_last xs (index + 1) inside'))
-                  ∙ moved_last-own xs (index + 1) last is inside' ∙ get_or_default xs (index + 1) 0 d inside'
-                  ∙ sym (above xs index index d inside (omega arith) (omega arith)) ∙ ap (λ i. get_or (moved_last xs index) i d) (sym at)
+    let k_inside : k < length xs = omega (arith, within, same_length, ap length was, length-moved_last xs (index + 1) inside') in
+    elim (cases_lt k index) [
+      | inl less ↦
+          swapped.2 k d (omega arith) (omega arith) ∙ ap (λ l. get_or l k d) was ∙ below xs (index + 1) k d inside' (omega arith)
+          ∙ sym (below xs index k d inside less)
+      | inr not_less ↦ elim (cases_lt index k) [
+        | inl more ↦ elim (cases_lt k last) [
+          | inl early ↦
+              swapped.2 k d (omega arith) (omega arith) ∙ ap (λ l. get_or l k d) was
+              ∙ above xs (index + 1) k d inside' (omega arith) (omega arith) ∙ sym (above xs index k d inside (omega arith) (omega arith))
+          | inr late ↦
+              let at : k ≡ last = omega arith in
+              ap (λ i. get_or next i d) at ∙ swapped.1 d ∙ ap (λ l. get_or l index d) was ∙ below xs (index + 1) index d inside' (omega arith)
+              ∙ get_or_default xs index d 0 inside ∙ sym (moved_last-own xs index last is inside)
+              ∙ get_or_default (moved_last xs index) last 0 d (omega (arith, length-moved_last xs index inside))
+              ∙ ap (λ i. get_or (moved_last xs index) i d) (sym at)
         ]
-      ])
-
--- the first entry goes back to the front
-pub moved_last-back : (xs now next : List ℕ) → 0 < length xs → now ≡ moved_last xs 0
-    → next ≡ drop (length now - 1) now ++ take (length now - 1) now → next ≡ xs
-moved_last-back [] now next some was turned = absurd (omega (arith, some))
-moved_last-back (x ∷ xs) now next some was turned =
-    let now_is : now ≡ xs ++ x ∷ [] = was in
-    let long : length xs ≡ length now - 1 = omega (arith, ap length now_is, length-append xs (x ∷ [])) in
-    let back : drop (length now - 1) now ≡ x ∷ [] = ap (drop (length now - 1)) now_is ∙ drop_at xs (x ∷ []) (length now - 1) long in
-    let front : take (length now - 1) now ≡ xs = ap (take (length now - 1)) now_is ∙ take_at xs (x ∷ []) (length now - 1) long in
-    turned ∙ ap (λ l. l ++ take (length now - 1) now) back ∙ ap (λ l. (x ∷ []) ++ l) front
+        | inr not_more ↦
+            let at : k ≡ index = omega arith in
+            ap (λ i. get_or next i d) at ∙ swapped.0 d ∙ ap (λ l. get_or l last d) was
+            ∙ get_or_default (moved_last xs (index + 1)) last d 0 (omega (arith, length-moved_last xs (index + 1) inside'))
+            ∙ moved_last-own xs (index + 1) last is inside' ∙ get_or_default xs (index + 1) 0 d inside'
+            ∙ sym (above xs index index d inside (omega arith) (omega arith)) ∙ ap (λ i. get_or (moved_last xs index) i d) (sym at)
+      ]
+    ])
 
 -- the same, counted from the index that was tried before
 pub moved_last-step : (xs now next : List ℕ) (index : ℕ) → 0 < index → index + 1 ≤ length xs

@@ -27,13 +27,13 @@ front_named frames order n names =
     record {
       named = All-take (λ number. number < length frames) n order names.named;
       distinct = IsDistinct-from_apart nat_eq (take n order) (λ i j d before inside.
-        let i_in : i < n = omega (arith, inside, length-take n order) in
-        let j_in : j < n = omega (arith, inside, length-take n order) in
-        let apart : nat_eq (get_or order i d) (get_or order j d) ≡ false =
-        apart_from_distinct nat_eq order i j d names.distinct before (omega (arith, inside, length-take n order)) in
-        let first = get_or-take n order i d i_in in
-        let second = get_or-take n order j d j_in in
-        cc);
+          let i_in : i < n = omega (arith, inside, length-take n order) in
+          let j_in : j < n = omega (arith, inside, length-take n order) in
+          let apart : nat_eq (get_or order i d) (get_or order j d) ≡ false =
+          apart_from_distinct nat_eq order i j d names.distinct before (omega (arith, inside, length-take n order)) in
+          let first = get_or-take n order i d i_in in
+          let second = get_or-take n order j d j_in in
+          cc);
     }
 
 -- and its back
@@ -42,11 +42,11 @@ back_named frames order n names =
     record {
       named = All-drop (λ number. number < length frames) n order names.named;
       distinct = IsDistinct-from_apart nat_eq (drop n order) (λ i j d before inside.
-        let apart : nat_eq (get_or order (n + i) d) (get_or order (n + j) d) ≡ false =
-        apart_from_distinct nat_eq order (n + i) (n + j) d names.distinct (omega arith) (omega (arith, inside, length-drop n order)) in
-        let first = get_or-drop n order i d in
-        let second = get_or-drop n order j d in
-        cc);
+          let apart : nat_eq (get_or order (n + i) d) (get_or order (n + j) d) ≡ false =
+          apart_from_distinct nat_eq order (n + i) (n + j) d names.distinct (omega arith) (omega (arith, inside, length-drop n order)) in
+          let first = get_or-drop n order i d in
+          let second = get_or-drop n order j d in
+          cc);
     }
 
 -- the two have nothing in common
@@ -91,8 +91,7 @@ behind_same order now m place same from =
     let j : ℕ = place + 1 - m in
     let at : m + j ≡ place + 1 = omega arith in
     let k : ℕ = place - m in
-    let here : m + k ≡ place = omega arith in
-    (
+    let here : m + k ≡ place = omega arith in (
       ap (λ n. drop n now) (sym at) ∙ sym (drop-drop j m now) ∙ ap (drop j) same ∙ drop-drop j m order ∙ ap (λ n. drop n order) at,
       ap (λ i. get_or now i 0) (sym here) ∙ sym (get_or-drop m now k 0) ∙ ap (λ l. get_or l k 0) same ∙ get_or-drop m order k 0
           ∙ ap (λ i. get_or order i 0) here,
@@ -102,18 +101,17 @@ behind_same order now m place same from =
 pub front_of_now : (order now : List ℕ) (m index : ℕ) → m ≤ length order → index < length (take m order)
     → now ≡ moved_last (take m order) index ++ drop m order
     → (take (m - 1) now ≡ remove (take m order) index)
-        × (drop (m - 1) now ≡ get_or (take m order) index 0 ∷ drop m order)
-        × (take m now ≡ moved_last (take m order) index)
-        × (drop m now ≡ drop m order)
-        × (get_or now (m - 1) 0 ≡ get_or (take m order) index 0)
+    × (drop (m - 1) now ≡ get_or (take m order) index 0 ∷ drop m order)
+    × (take m now ≡ moved_last (take m order) index)
+    × (drop m now ≡ drop m order)
+    × (get_or now (m - 1) 0 ≡ get_or (take m order) index 0)
 front_of_now order now m index within inside was =
     let front : List ℕ = take m order in
     let rest : List ℕ = remove front index in
     let own : ℕ = get_or front index 0 in
     let long_rest : length rest ≡ m - 1 = omega (arith, length-remove front index inside, length-take m order) in
     let long_moved : length (moved_last front index) ≡ m = omega (arith, length-moved_last front index inside, length-take m order) in
-    let split : now ≡ rest ++ (own ∷ drop m order) = was ∙ append_assoc rest (own ∷ []) (drop m order) in
-    (
+    let split : now ≡ rest ++ (own ∷ drop m order) = was ∙ append_assoc rest (own ∷ []) (drop m order) in (
       ap (take (m - 1)) split ∙ take_at rest (own ∷ drop m order) (m - 1) long_rest,
       ap (drop (m - 1)) split ∙ drop_at rest (own ∷ drop m order) (m - 1) long_rest,
       ap (take m) was ∙ take_at (moved_last front index) (drop m order) m long_moved,
@@ -205,12 +203,12 @@ all_filled_passes frames bit order given fills =
           let own : get_or above place 0 ≡ get_or order place 0 = get_or-take (place + 1) order place 0 (omega arith) in
           let rest : remove above place ≡ take place order =
           ap (λ l. take place above ++ l) (drop_all (suc place) above (omega arith)) ∙ append-nil (take place above)
-              ∙ take-take place (place + 1) order (omega arith) in
+          ∙ take-take place (place + 1) order (omega arith) in
           let taken : TakesLowest frames bit above (drop (place + 1) order) (get_or order place 0) = fills.taken place (omega arith) inside in
           let P : ℕ → Type 0 = λ number. CanTakeLowest frames bit above (drop (place + 1) order) number in
           let passes : PassesAgainst frames (get_or above place 0) (remove above place) (drop (place + 1) order) bit =
           rest_from_can_take frames bit above (drop (place + 1) order) place given (front_named frames order (place + 1) fills.names_each_once)
-              (back_named frames order (place + 1) fills.names_each_once) (omega arith) (subst P (sym own) taken.can_take) in
+          (back_named frames order (place + 1) fills.names_each_once) (omega arith) (subst P (sym own) taken.can_take) in
           let Q : ℕ → Type 0 = λ number. PassesAgainst frames number (remove above place) (drop (place + 1) order) bit in
           let R : List ℕ → Type 0 = λ higher. PassesAgainst frames (get_or order place 0) higher (drop (place + 1) order) bit in
           subst R rest (subst Q own passes);
@@ -250,8 +248,8 @@ stuck_is_failing frames bit m order given some within it =
           given.some_bit given.in_range (below frames front own front_names in') (others_distinct own front front_names.distinct)
           (λ z among. (below frames front z front_names (others_are own front z among).0, among))
           (λ z among.
-            let inside : z < length frames = below frames (drop m order) z (back_named frames order m names) among in
-            (inside, inl (remaining_have frames front z inside (λ both. front_and_back frames order m z names both among))))
+          let inside : z < length frames = below frames (drop m order) z (back_named frames order m names) among in
+          (inside, inl (remaining_have frames front z inside (λ both. front_and_back frames order m z names both among))))
           passes);
     }
 
@@ -264,13 +262,19 @@ numbered frames bit order long each =
       names_each_once = record {
         named = λ k d inside. omega (arith, same k d inside);
         distinct = IsDistinct-from_apart nat_eq order (λ i j d before inside.
-          differ (get_or order i d) (get_or order j d) (λ is. omega (arith, same i d (omega arith), same j d inside)));
+            differ (get_or order i d) (get_or order j d) (λ is. omega (arith, same i d (omega arith), same j d inside)));
         each = λ number inside. (number, omega arith, same number number (omega arith));
       };
       ascending = λ k inside.
           let whole : take (length order) order ≡ order = take_all (length order) order (omega arith) in
-          omega (arith, ap (λ l. get_or l k 0) whole, ap (λ l. get_or l (k + 1) 0) whole, ap length whole, same k 0 (omega (arith, ap length whole)),
-              same (k + 1) 0 (omega (arith, ap length whole)));
+          omega (
+            arith,
+            ap (λ l. get_or l k 0) whole,
+            ap (λ l. get_or l (k + 1) 0) whole,
+            ap length whole,
+            same k 0 (omega (arith, ap length whole)),
+            same (k + 1) 0 (omega (arith, ap length whole)),
+          );
       taken = λ place from inside. absurd (omega arith);
     }
 

@@ -1,2 +1,3 @@
 pub mod Level
 pub mod Lowest
+pub mod Checked

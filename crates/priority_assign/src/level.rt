@@ -12,7 +12,12 @@ const MAX_PERIOD: u64 = 100_000_000_000;
 /// Moves the last frame of a level that passes with the others of the level higher to the level's end, and says where it
 /// was; lower frames block for `blocked` ticks. None exactly where none passes; the level is as before then. The busy
 /// period is the same for each frame of the level.
-pub(crate) fn choose_last(frames: &[Timed], bit: u64, blocked: u64, level: &mut [u32]) -> Option<usize>
+pub(crate) fn choose_last(
+    frames: &[Timed],
+    bit: u64,
+    blocked: u64,
+    level: &mut [u32],
+) -> Option<usize>
     requires some { 0 < length level.old }
     requires named { AreNamed frames.now level.old }
     requires bit { IsBit frames.now bit }

@@ -10,5 +10,7 @@
 
 mod assignment;
 mod level;
+#[cfg(test)]
+mod tests;
 
 pub use assignment::{Assigned, assign};

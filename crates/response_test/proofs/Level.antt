@@ -20,7 +20,7 @@ pub starts_before_end_at : (frames : List Timed) (order : List ℕ) (place bit i
     → IsStage frames order place → IsBit frames bit
     → IsBusy (demand_of frames order place) busy → instance < instances_of (own_of frames order place) busy
     → ((own_of frames order place).ticks ≤ busy)
-        × CanStart (queueing_of frames order place bit) instance (busy - (own_of frames order place).ticks)
+    × CanStart (queueing_of frames order place bit) instance (busy - (own_of frames order place).ticks)
 starts_before_end_at frames order place bit instance busy stage is_bit =
     starts_before_end frames (own_number order place) (higher_of order place) (blocking_of frames (lower_of order place)) bit
     instance busy (bit-le-own frames order place bit stage is_bit)
@@ -29,7 +29,7 @@ starts_before_end_at frames order place bit instance busy stage is_bit =
 pub busy_of_last : (frames : List Timed) (level : List ℕ) (blocked busy : ℕ) → 0 < length level
     → IsLeast (IsFit frames level blocked 0 1) busy
     → IsLeast (IsBusy (λ t. blocked + work_of frames (higher_of level (length level - 1)) t
-        + asks_of (own_of frames level (length level - 1)) t)) busy
+    + asks_of (own_of frames level (length level - 1)) t)) busy
 busy_of_last frames level blocked busy some least =
     let whole : take (length level - 1 + 1) level ≡ level = take_all (length level - 1 + 1) level (omega arith) in
     let P : List ℕ → Type 0 = λ numbers. IsLeast (IsFit frames numbers blocked 0 1) busy in
@@ -69,7 +69,7 @@ passes_by_busy frames number higher blocked bit busy bit_le least short early =
 pub passes_of_front : (frames : List Timed) (order : List ℕ) (place bit blocked : ℕ) (verdict : Bool) → place < length order
     → blocked ≡ blocking_of frames (lower_of order place)
     → (IsTrue verdict ↔ PassesBlocked frames (own_number (take (place + 1) order) (length (take (place + 1) order) - 1))
-        (higher_of (take (place + 1) order) (length (take (place + 1) order) - 1)) blocked bit)
+    (higher_of (take (place + 1) order) (length (take (place + 1) order) - 1)) blocked bit)
     → IsTrue verdict ↔ FramePasses frames order place bit
 passes_of_front frames order place bit blocked verdict inside is it =
     let level : List ℕ = take (place + 1) order in

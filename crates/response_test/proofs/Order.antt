@@ -60,8 +60,7 @@ remaining_are frames members z in' =
     let p : ℕ → Bool = λ number. not (list_any (nat_eq number) members) in
     let both = Contains-from_filter p (range_with_len 0 (length frames)) z in' in
     let k : ℕ = both.0.0 in
-    let inside : k < length frames = omega (arith, both.0.1, length-range_with_len 0 (length frames)) in
-    (
+    let inside : k < length frames = omega (arith, both.0.1, length-range_with_len 0 (length frames)) in (
       omega (arith, both.0.2, get_or-range_with_len 0 (length frames) k z inside),
       λ member. let is : list_any (nat_eq z) members ≡ true = list_any-from_Contains nat_eq_equiv z members member in
           let no : not (list_any (nat_eq z) members) ≡ true = both.1 in cc (ap not is),
@@ -158,21 +157,25 @@ no_order_passes frames bit members order some ranges failing it =
     low.last (low.place + 1 + k) (omega arith) (omega (arith, inside, length-drop (low.place + 1) order))
     (subst (Contains members) (sym ((sym (get_or-drop (low.place + 1) order k 0)) ∙ get_or_default lower k 0 z inside ∙ is)) in') in
     let more : (z : ℕ) → Contains (others_of own members) z → (z < length frames) × Contains higher z = λ z in'.
-    let other : Contains members z × (own ≡ z → ⊥) = others_are own members z in' in
-    (below z other.0, elim (above_at_or_below order low.place z (names.each z (below z other.0))) [
-      | inl above ↦ above
-      | inr rest ↦ elim rest [ inl here ↦ absurd (other.1 here) | inr under ↦ absurd (not_below z other.0 under) ]
-    ]) in
+    let other : Contains members z × (own ≡ z → ⊥) = others_are own members z in' in (
+      below z other.0,
+      elim (above_at_or_below order low.place z (names.each z (below z other.0))) [
+        | inl above ↦ above
+        | inr rest ↦ elim rest [ inl here ↦ absurd (other.1 here) | inr under ↦ absurd (not_below z other.0 under) ]
+      ],
+    ) in
     let moved : (z : ℕ) → Contains (remaining_of frames members) z
     → (z < length frames) × StaysOrMovesUp (others_of own members) higher lower z = λ z in'.
-    let other : (z < length frames) × (¬ (Contains members z)) = remaining_are frames members z in' in
-    (other.0, elim (above_at_or_below order low.place z (names.each z other.0)) [
-      | inl above ↦ inr (λ among. other.1 (others_are own members z among).0, above)
-      | inr rest ↦ elim rest [
-        | inl here ↦ absurd (other.1 (subst (Contains members) here low.member))
-        | inr under ↦ inl under
-      ]
-    ]) in
+    let other : (z < length frames) × (¬ (Contains members z)) = remaining_are frames members z in' in (
+      other.0,
+      elim (above_at_or_below order low.place z (names.each z other.0)) [
+        | inl above ↦ inr (λ among. other.1 (others_are own members z among).0, above)
+        | inr rest ↦ elim rest [
+          | inl here ↦ absurd (other.1 (subst (Contains members) here low.member))
+          | inr under ↦ inl under
+        ]
+      ],
+    ) in
     failing.fails own low.member
     (passes_under_fewer frames own (others_of own members) (remaining_of frames members) higher lower bit some ranges
     (below own low.member) (others_distinct own members failing.distinct) more moved (it.passes low.place low.inside))

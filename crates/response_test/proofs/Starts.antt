@@ -45,8 +45,8 @@ pub starts_before_end : (frames : List Timed) (own : ℕ) (higher : List ℕ) (b
     → IsBusy (λ t. blocked + work_of frames higher t + asks_of (frame_at frames own) t) busy
     → instance < instances_of (frame_at frames own) busy
     → ((frame_at frames own).ticks ≤ busy) × CanStart
-        (λ k start. blocked + k * (frame_at frames own).ticks + work_of frames higher (start + bit)) instance
-        (busy - (frame_at frames own).ticks)
+    (λ k start. blocked + k * (frame_at frames own).ticks + work_of frames higher (start + bit)) instance
+    (busy - (frame_at frames own).ticks)
 starts_before_end frames number higher blocked bit instance busy bit_le it inside =
     let own : Timed = frame_at frames number in
     let sent : (instance + 1) * own.ticks ≤ asks_of own busy = mul-le-mul_right own.ticks (omega arith) in

@@ -24,7 +24,8 @@ mod written;
 pub use evidence::Evidence;
 pub use given::shown;
 pub use laws::{
-    growth_keeps_failing, no_order_passes_failing_set, passing_is_being_shown, queueing_never_falls, shown_numbers_pass, test_depends_on_sets,
+    growth_keeps_failing, no_order_passes_failing_set, passing_is_being_shown,
+    queueing_never_falls, shown_numbers_pass, test_depends_on_sets,
 };
 pub use queue::least_queue;
 pub use refutation::{evidence_denies_passing, refuted};

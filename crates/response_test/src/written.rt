@@ -44,7 +44,7 @@ pub fn last_passes(frames: &[Timed], level: &[u32], blocked: u64, bit: u64, busy
     requires limit { busy ≤ 2 ^ 45 }
     ensures { IsTrue result
         ↔ PassesBlocked frames.now (own_number level.now (length level.now - 1))
-            (higher_of level.now (length level.now - 1)) blocked bit }
+        (higher_of level.now (length level.now - 1)) blocked bit }
 {
     let last = level.len() - 1;
     let number = level[last];

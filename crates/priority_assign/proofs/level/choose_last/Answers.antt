@@ -21,8 +21,8 @@ returns-then-last_passes-clause-chosen c =
 pub returns-in_err-busy-clause-none : goal.returns-in_err-busy-clause-none
 returns-in_err-busy-clause-none c =
     rw c.from_residual.ensures (λ index inside passes.
-      let fits = fits_if_passes c.args.frames.now c.args.level.now c.args.blocked c.args.bit index c.requires.named inside passes in
-      omega (arith, (c.in_err-busy.ensures {u = tt}).none fits.0 fits.1, fits.2))
+    let fits = fits_if_passes c.args.frames.now c.args.level.now c.args.blocked c.args.bit index c.requires.named inside passes in
+    omega (arith, (c.in_err-busy.ensures {u = tt}).none fits.0 fits.1, fits.2))
 
 -- the level is the old one with the frame at the index moved to its end
 moved : (c : goal.After-slice_known-in-loop-index-1) → c.swap.new.self ≡ moved_last c.args.level.now (c.loop-index.index - 1)

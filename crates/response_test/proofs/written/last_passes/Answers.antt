@@ -19,8 +19,7 @@ pub returns-then-busy-own-2 : goal.returns-then-busy-own-2
 returns-then-busy-own-2 c =
     let last : ℕ = length c.args.level.now - 1 in
     let named : own_number c.args.level.now last < length c.args.frames.now =
-    All-get_or (λ i. i < length c.args.frames.now) c.args.level.now last 0 (omega (arith, c.requires.some)) c.requires.named.named in
-    (
+    All-get_or (λ i. i < length c.args.frames.now) c.args.level.now last 0 (omega (arith, c.requires.some)) c.requires.named.named in (
       λ _. passes_by_busy c.args.frames.now (own_number c.args.level.now last) (higher_of c.args.level.now last) c.args.blocked c.args.bit c.args.busy
           (All-get_or (λ frame. c.args.bit ≤ frame.ticks) c.args.frames.now (own_number c.args.level.now last) none_frame named c.requires.bit.within)
           (busy_of_last c.args.frames.now c.args.level.now c.args.blocked c.args.busy c.requires.some c.requires.busy)
