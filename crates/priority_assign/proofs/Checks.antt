@@ -1,5 +1,5 @@
 -- What the test of frames that are written out says.
-use Rattle.std.proofs.Common.{◌≡◌, ℕ, ◌≤◌, Bool, true, ◌&&◌, IsTrue, List, length, nat_le, All}
+use Rattle.std.proofs.Common.{◌≡◌, ◌≤◌, true, ◌&&◌, IsTrue, List, length, nat_le, All}
 use Rattle.std.specs.List.{list_all}
 use Rattle.std.proofs.lemmas.Bool.{and_parts, leb-true}
 use Rattle.std.proofs.lemmas.List.Elements.{All-weaker}

@@ -1,25 +1,24 @@
 -- Places that are filled from the lowest up.
-use Rattle.std.proofs.Common.{◌≡◌, ℕ, ◌+◌, ◌-◌, ◌<◌, ◌≤◌, inl, inr, zero, suc, List, [], ◌∷◌, ◌++◌, length, take, drop, get_or, nat_eq, All, Contains, refl, sym, ◌∙◌, ap, subst, arith, length-take, length-drop, length-append, take-append-drop}
+use Rattle.std.proofs.Common.{◌≡◌, ℕ, ◌+◌, ◌<◌, ◌≤◌, inl, inr, List, [], ◌∷◌, length, get_or, nat_eq, All, Contains, sym, ◌∙◌, ap, subst, arith}
 use Rattle.std.specs.Cmp.{nat_eq_equiv}
 use Rattle.std.specs.List.{IsDistinct, remove, AllPairs}
 use Rattle.std.specs.List.Sorted.{IsPermutation, IsStrictlyIncreasing}
 use Rattle.std.proofs.lemmas.Bool.{cases_lt}
-use Rattle.std.proofs.lemmas.List.{get_or_default, get_or-take, get_or-drop, take-take}
-use Rattle.std.proofs.lemmas.List.Elements.{All-contains, All-take, All-drop, Contains-append_right, Contains-append_cases}
+use Rattle.std.proofs.lemmas.List.{get_or_default}
+use Rattle.std.proofs.lemmas.List.Elements.{All-contains, Contains-append_right, Contains-append_cases}
 use Rattle.std.proofs.lemmas.List.Edits.{length-remove, get_or-remove_below, get_or-remove_above}
 use Rattle.std.proofs.lemmas.List.Kept.{AllPairs-from_increasing}
-use Rattle.std.proofs.lemmas.List.Sorted.{All-permutation, Contains-permutation, IsPermutation-remove, IsPermutation-sym, IsPermutation-append_left}
-use Rattle.std.proofs.lemmas.Map.Keys.{IsDistinct-tail, IsDistinct-IsPermutation, apart_from_distinct}
+use Rattle.std.proofs.lemmas.List.Sorted.{All-permutation, Contains-permutation, IsPermutation-remove, IsPermutation-sym}
+use Rattle.std.proofs.lemmas.Map.Keys.{IsDistinct-tail, IsDistinct-IsPermutation}
 use Rattle.busy_period.specs.declared.timed.Timed.{Timed}
 use Rattle.busy_period.specs.Timed.{IsInRange}
 use Rattle.busy_period.specs.Demand.{blocking_of}
-use Rattle.busy_period.proofs.Sums.{one, head_apart, IsDistinct-take}
-use Rattle.response_test.specs.Frame.{PassesAgainst, PassesBlocked, FramePasses}
-use Rattle.response_test.specs.Order.{NamesEachOnce, OrderPasses, others_of, remaining_of, FailSet}
-use Rattle.response_test.proofs.Order.{others_are, others_have, others_distinct, remaining_have, passes_under_fewer}
-use Rattle.priority_assign.specs.Level.{moved_last, PassesAt, IsLastPassing}
-use Rattle.priority_assign.specs.Lowest.{CanTakeLowest, TakesLowest, FillsLowestFirst, IsLowestFirst}
-use Rattle.priority_assign.proofs.Moved.{moved_last-permutation}
+use Rattle.busy_period.proofs.Sums.{one, head_apart}
+use Rattle.response_test.specs.Frame.{PassesAgainst, PassesBlocked}
+use Rattle.response_test.specs.Order.{others_of}
+use Rattle.response_test.proofs.Order.{others_are, others_have, others_distinct, passes_under_fewer}
+use Rattle.priority_assign.specs.Level.{IsLastPassing}
+use Rattle.priority_assign.specs.Lowest.{CanTakeLowest, TakesLowest}
 
 -- frames in range, and the time of a bit
 pub record Given (frames : List Timed) (bit : ℕ) : Type 0 where

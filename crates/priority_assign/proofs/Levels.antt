@@ -1,17 +1,17 @@
 -- The test of each frame of a level, by the busy period that they share.
-use Rattle.std.proofs.Common.{◌≡◌, ℕ, ◌+◌, ◌-◌, ◌*◌, ◌<◌, ◌≤◌, ◌↔◌, Bool, IsTrue, List, [], ◌∷◌, length, take, get_or, All, refl, sym, ◌∙◌, ap, subst, arith, add-zero}
+use Rattle.std.proofs.Common.{◌≡◌, ℕ, ◌+◌, ◌-◌, ◌<◌, ◌≤◌, ◌↔◌, Bool, IsTrue, List, ◌∷◌, length, take, get_or, sym, ◌∙◌, ap, subst, arith, add-zero}
 use Rattle.std.specs.List.{remove}
 use Rattle.std.specs.List.Sorted.{IsPermutation}
 use Rattle.std.proofs.lemmas.List.{get_or_default}
 use Rattle.std.proofs.lemmas.List.Sums.{sum_by-cons}
 use Rattle.std.proofs.lemmas.List.Sorted.{All-permutation, length_permutation, sum_by-IsPermutation, IsPermutation-sym, IsPermutation-remove}
 use Rattle.busy_period.specs.declared.timed.Timed.{Timed}
-use Rattle.busy_period.specs.Timed.{IsInRange, none_frame, frame_at}
+use Rattle.busy_period.specs.Timed.{IsInRange, frame_at}
 use Rattle.busy_period.specs.Stage.{AreNamed, own_number, higher_of}
 use Rattle.busy_period.specs.Demand.{asks_of, work_of}
 use Rattle.busy_period.specs.Least.{IsLeast}
 use Rattle.busy_period.specs.Busy.{IsFit}
-use Rattle.busy_period.proofs.Stages.{named_is_in_range, fit_from_busy}
+use Rattle.busy_period.proofs.Stages.{named_is_in_range}
 use Rattle.response_test.specs.Frame.{PassesBlocked}
 use Rattle.priority_assign.specs.Level.{moved_last, PassesAt}
 use Rattle.priority_assign.proofs.Moved.{length-moved_last, moved_last-permutation, moved_last-own, moved_last-others}

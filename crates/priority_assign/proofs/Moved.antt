@@ -1,9 +1,9 @@
 -- Lists with one of their entries moved to the end.
-use Rattle.std.proofs.Common.{◌≡◌, ℕ, ◌+◌, ◌-◌, ◌<◌, ◌≤◌, ◌≢◌, inl, inr, zero, suc, List, [], ◌∷◌, ◌++◌, length, take, drop, get_or, refl, sym, ◌∙◌, ap, arith, length-append, length-take}
+use Rattle.std.proofs.Common.{◌≡◌, ℕ, ◌+◌, ◌-◌, ◌<◌, ◌≤◌, inl, inr, suc, List, [], ◌∷◌, ◌++◌, length, take, drop, get_or, sym, ◌∙◌, ap, arith, length-append}
 use Rattle.std.specs.List.{remove, SwappedAt}
 use Rattle.std.specs.List.Sorted.{IsPermutation}
 use Rattle.std.proofs.lemmas.Bool.{cases_lt}
-use Rattle.std.proofs.lemmas.List.{same_lists, get_or_append_left, get_or_at, get_or_default, take_all, take_at, drop_at, take_more, drop_all, append-nil}
+use Rattle.std.proofs.lemmas.List.{same_lists, get_or_append_left, get_or_at, get_or_default, take_all, take_at, take_more, drop_all, append-nil}
 use Rattle.std.proofs.lemmas.List.Edits.{length-remove, get_or-remove_below, get_or-remove_above}
 use Rattle.std.proofs.lemmas.List.Sorted.{IsPermutation-remove, IsPermutation-to_front, IsPermutation-sym, IsPermutation-trans}
 use Rattle.priority_assign.specs.Level.{moved_last}

@@ -1,19 +1,19 @@
 -- One more place that is filled, and what the answer says when all are or none can be.
-use Rattle.std.proofs.Common.{◌≡◌, ℕ, ◌+◌, ◌-◌, ◌<◌, ◌≤◌, inl, inr, zero, suc, true, false, Option, Some, None, is_some, IfSome, IfNone, List, [], ◌∷◌, ◌++◌, length, take, drop, get_or, max, nat_eq, All, Contains, refl, sym, ◌∙◌, ap, subst, arith, length-take, length-drop, length-append, take-append-drop}
+use Rattle.std.proofs.Common.{◌≡◌, ℕ, ◌+◌, ◌-◌, ◌<◌, ◌≤◌, inl, inr, suc, true, false, Option, Some, None, is_some, IfSome, IfNone, List, [], ◌∷◌, ◌++◌, length, take, drop, get_or, max, nat_eq, Contains, sym, ◌∙◌, ap, subst, arith, length-take, length-drop, take-append-drop}
 use Rattle.std.specs.Cmp.{nat_eq_equiv}
-use Rattle.std.specs.List.{IsDistinct, remove}
+use Rattle.std.specs.List.{remove}
 use Rattle.std.specs.List.Sorted.{IsPermutation, IsStrictlyIncreasing}
 use Rattle.std.proofs.lemmas.Bool.{cases_lt, eqb-false, false≢true}
-use Rattle.std.proofs.lemmas.List.{append_assoc, append-nil, drop_all, get_or_default, get_or-take, get_or-drop, get_or_append_left, get_or-append_right, get_or_at, take-take, take_all, take_at, drop_at, drop-drop}
-use Rattle.std.proofs.lemmas.List.Elements.{All-contains, All-get_or, All-take, All-drop, Contains-append_left, Contains-append_right}
+use Rattle.std.proofs.lemmas.List.{append_assoc, append-nil, drop_all, get_or_default, get_or-take, get_or-drop, get_or_at, take-take, take_all, take_at, drop_at, drop-drop}
+use Rattle.std.proofs.lemmas.List.Elements.{All-get_or, All-take, All-drop}
 use Rattle.std.proofs.lemmas.List.Edits.{length-remove}
-use Rattle.std.proofs.lemmas.List.Sorted.{All-permutation, Contains-permutation, length_permutation, IsPermutation-sym, IsPermutation-append_left}
+use Rattle.std.proofs.lemmas.List.Sorted.{All-permutation, Contains-permutation, length_permutation, IsPermutation-append_left}
 use Rattle.std.proofs.lemmas.Map.Keys.{IsDistinct-IsPermutation, apart_from_distinct, IsDistinct-from_apart}
 use Rattle.busy_period.specs.declared.timed.Timed.{Timed}
-use Rattle.busy_period.specs.Timed.{IsInRange, frame_at}
+use Rattle.busy_period.specs.Timed.{frame_at}
 use Rattle.busy_period.specs.Demand.{blocking_of}
 use Rattle.busy_period.proofs.Sums.{differ}
-use Rattle.response_test.specs.Frame.{PassesAgainst, PassesBlocked, FramePasses}
+use Rattle.response_test.specs.Frame.{PassesAgainst, PassesBlocked}
 use Rattle.response_test.specs.Order.{NamesEachOnce, OrderPasses, others_of, remaining_of, FailSet}
 use Rattle.response_test.proofs.Order.{others_are, others_distinct, remaining_have, passes_under_fewer}
 use Rattle.priority_assign.specs.Level.{moved_last, PassesAt, IsLastPassing}

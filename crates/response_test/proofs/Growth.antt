@@ -1,9 +1,9 @@
 -- A test that passes among harder and further frames passed before.
-use Rattle.std.proofs.Common.{ℕ, ◌+◌, ◌*◌, ◌<◌, ◌≤◌, List, arith}
+use Rattle.std.proofs.Common.{ℕ, ◌+◌, ◌≤◌, List, arith}
 use Rattle.std.proofs.Math.Nat.{mul-le-mul_left}
 use Rattle.busy_period.specs.declared.timed.Timed.{Timed}
 use Rattle.busy_period.specs.Timed.{frame_at}
-use Rattle.busy_period.specs.Demand.{instances_of, demand_against}
+use Rattle.busy_period.specs.Demand.{demand_against}
 use Rattle.busy_period.specs.Harder.{IsHarder, Grows}
 use Rattle.busy_period.proofs.Growth.{instances-harder, asks-harder, claims-grow}
 use Rattle.response_test.specs.Queueing.{queueing_against}

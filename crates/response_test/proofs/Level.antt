@@ -1,12 +1,12 @@
 -- The written test at a level: the frame under test is the last of it, and the busy period is the level's.
-use Rattle.std.proofs.Common.{◌≡◌, ℕ, ◌+◌, ◌-◌, ◌*◌, ◌<◌, ◌≤◌, ◌↔◌, Bool, IsTrue, List, length, take, drop, get_or, ap, subst, sym, ◌∙◌, arith, length-take}
+use Rattle.std.proofs.Common.{◌≡◌, ℕ, ◌+◌, ◌-◌, ◌*◌, ◌<◌, ◌≤◌, ◌↔◌, Bool, IsTrue, List, length, take, get_or, ap, subst, sym, ◌∙◌, arith, length-take}
 use Rattle.std.proofs.lemmas.List.{take_all, take-take, get_or-take}
 use Rattle.busy_period.specs.declared.timed.Timed.{Timed}
 use Rattle.busy_period.specs.Timed.{frame_at}
 use Rattle.busy_period.specs.Stage.{IsStage, own_number, own_of, higher_of, lower_of}
 use Rattle.busy_period.specs.Demand.{instances_of, asks_of, work_of, blocking_of, demand_of}
 use Rattle.busy_period.specs.Least.{IsLeast}
-use Rattle.busy_period.specs.Busy.{IsFit, IsBusy, LeastBusy}
+use Rattle.busy_period.specs.Busy.{IsFit, IsBusy}
 use Rattle.busy_period.proofs.Least.{least_unique}
 use Rattle.busy_period.proofs.Stages.{least_busy_from_fit}
 use Rattle.response_test.specs.Queueing.{IsBit, queueing_of}

@@ -12,7 +12,7 @@ use Rattle.std.proofs.lemmas.Map.Views.{Contains-from_any, list_any-from_Contain
 use Rattle.pack_model.proofs.PlacedLaws.{Contains-filter}
 use Rattle.busy_period.specs.declared.timed.Timed.{Timed}
 use Rattle.busy_period.specs.Timed.{IsInRange, none_frame, frame_at}
-use Rattle.busy_period.specs.Harder.{IsHarder, StaysOrMovesUp, Grows}
+use Rattle.busy_period.specs.Harder.{IsHarder, StaysOrMovesUp}
 use Rattle.busy_period.proofs.Least.{last_below}
 use Rattle.busy_period.proofs.Sums.{differ}
 use Rattle.response_test.specs.Frame.{PassesAgainst}

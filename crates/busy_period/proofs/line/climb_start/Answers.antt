@@ -1,4 +1,4 @@
-use Rattle.std.proofs.Common.{ℕ, ◌+◌, ◌*◌, ◌≤◌, ap, subst, sym, arith}
+use Rattle.std.proofs.Common.{ℕ, ◌+◌, ◌*◌, ◌≤◌, subst, sym, arith}
 use Rattle.busy_period.specs.Demand.{work_of}
 use Rattle.busy_period.proofs.Lines.{start-le}
 use Rattle.busy_period.proofs.line.climb_start.Goals as goal

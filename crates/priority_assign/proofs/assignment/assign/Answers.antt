@@ -1,12 +1,10 @@
-use Rattle.std.proofs.Common.{◌≡◌, ℕ, ◌+◌, ◌-◌, ◌<◌, ◌≤◌, ◌++◌, List, length, take, drop, get_or, not, refl, sym, ◌∙◌, ap, subst, arith, true, false, is_some, length-take, length-append}
+use Rattle.std.proofs.Common.{◌≡◌, ℕ, ◌+◌, ◌-◌, ◌<◌, ◌++◌, List, length, take, drop, get_or, not, refl, sym, ◌∙◌, ap, subst, arith, false, is_some}
 use Rattle.std.proofs.lemmas.List.{drop_all}
-use Rattle.std.proofs.lemmas.List.Elements.{All-get_or}
-use Rattle.std.proofs.lemmas.List.Sorted.{length_permutation}
 use Rattle.busy_period.specs.Timed.{IsInRange, none_frame, frame_at}
 use Rattle.busy_period.specs.Demand.{blocking_of}
 use Rattle.response_test.specs.Order.{FailSet, OrderPasses}
 use Rattle.response_test.proofs.Order.{no_order_passes}
-use Rattle.priority_assign.specs.Level.{moved_last, PassesAt, IsLastPassing}
+use Rattle.priority_assign.specs.Level.{PassesAt}
 use Rattle.priority_assign.specs.Lowest.{FillsLowestFirst, IsLowestFirst}
 use Rattle.priority_assign.proofs.Filling.{Given}
 use Rattle.priority_assign.proofs.Steps.{Chosen, chosen_of, where_none, put_back, numbered, all_filled_passes, stuck_is_lowest_first, stuck_is_failing}

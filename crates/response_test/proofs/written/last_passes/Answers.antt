@@ -1,4 +1,4 @@
-use Rattle.std.proofs.Common.{◌≡◌, ℕ, ◌+◌, ◌-◌, ◌<◌, ◌≤◌, length, refl, arith, length-take}
+use Rattle.std.proofs.Common.{ℕ, ◌-◌, ◌<◌, ◌≤◌, length, refl, arith, length-take}
 use Rattle.std.proofs.lemmas.List.Elements.{All-get_or, All-take}
 use Rattle.busy_period.specs.Timed.{none_frame}
 use Rattle.busy_period.specs.Stage.{own_number, higher_of}
