@@ -40,7 +40,9 @@ part_at header at earlier bytes =
     else Ok (record { id = id_in header bytes; bytes = take (length_in header bytes) (after_header header bytes) }, drop (length_in header bytes) (after_header header bytes)))))
 
 infixl 10 ◌>>=◌
-abbrev pub ◌>>=◌ : {A B : Type 0} → Result A ContainerFault → (A → Result B ContainerFault) → Result B ContainerFault
+-- one step of reading, and then the next
+abbrev pub ◌>>=◌ : {A B : Type 0} → Result A ContainerFault → (A → Result B ContainerFault)
+    → Result B ContainerFault
 (Ok x) >>= f = f x
 (Err e) >>= f = Err e
 

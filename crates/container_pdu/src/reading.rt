@@ -97,8 +97,10 @@ pub fn read_container(
     ensures found { IfOk result (λ v. IsContainer header v.items payload.now) }
     ensures refused { IfErr result (λ e. (e ≡ fault.Memory) ⊎ Refuses header payload.now e) }
     // Each container is read and each wrong one is refused, unless memory runs out.
-    ensures reads { (parts : List Part) → IsContainer header parts payload.now → Gives (λ v. v.items) told result (Ok parts) }
-    ensures refuses { (why : ContainerFault) → Refuses header payload.now why → Gives (λ v. v.items) told result (Err why) }
+    ensures reads { (parts : List Part) → IsContainer header parts payload.now
+        → Gives (λ v. v.items) told result (Ok parts) }
+    ensures refuses { (why : ContainerFault) → Refuses header payload.now why
+        → Gives (λ v. v.items) told result (Err why) }
 {
     read_parts(alloc, payload, header)
 }
