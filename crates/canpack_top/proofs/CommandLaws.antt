@@ -1,15 +1,12 @@
 -- What the answer of a command says where the command is known.
-use Rattle.std.proofs.Common.{◌≡◌, ◌≢◌, ◌∙◌, ◌⊎◌, ◌≤◌, ℕ, suc, List, Option, None, Some, Result, Ok, Err, IsNone, IsOk, IsOkAnd, IsSome, IsSomeAnd, String, ap, arith, inl, inr, option_map, refl, subst, sym, true, false, is_some, true≢false, []}
-use Rattle.std.specs.Prelude.{⊤}
+use Rattle.std.proofs.Common.{◌≡◌, ◌≢◌, ◌∙◌, ◌⊎◌, ℕ, List, Option, None, Some, Result, Ok, Err, IsNone, IsOk, IsOkAnd, IsSome, IsSomeAnd, String, ap, arith, inl, inr, option_map, refl, subst, sym, is_some, true≢false, []}
 use Rattle.std.specs.Result.{result_err}
 use Rattle.std.specs.declared.alloc.Global.{Global}
 use Rattle.pack_base.specs.Outside.{Files}
-use Rattle.pack_model.specs.Problem.{Parts}
 use Rattle.cert_text.specs.declared.parts.Kind.TheVariants.{KindPlaced, KindTimed}
 use Rattle.cert_check.specs.declared.verdict.Verdict.{Verdict}
 use Rattle.cert_check.specs.declared.verdict.Verdict.TheVariants as verdict
 use Rattle.canpack_top.specs.declared.command.Command.{Command}
-use Rattle.canpack_top.specs.declared.command.Command.TheVariants as command
 use Rattle.canpack_top.specs.declared.ending.Status.{Status}
 use Rattle.canpack_top.specs.declared.ending.Status.TheVariants as status
 use Rattle.canpack_top.specs.declared.refusal.Refusal.{Refusal}
@@ -18,13 +15,13 @@ use Rattle.canpack_top.specs.declared.verdict.Part.TheVariants as part
 use Rattle.canpack_top.specs.declared.verdict.Found.{Found}
 use Rattle.canpack_top.specs.declared.verdict.Found.TheVariants as found
 use Rattle.canpack_top.specs.Answer.{Answered, IsAnswer, IsAnswered, IsExcused, IsRefused}
-use Rattle.canpack_top.specs.Check.{Accepts, HasAll, HasOnePlace, HasPassing, IsAnswerOf, Rejects, check_answer, check_meaning, texts_at}
-use Rattle.canpack_top.specs.Command.{Names, command_of, names_in}
+use Rattle.canpack_top.specs.Check.{Accepts, HasAll, HasOnePlace, HasPassing, Rejects, check_answer, check_meaning, texts_at}
+use Rattle.canpack_top.specs.Command.{command_of, names_in}
 use Rattle.canpack_top.specs.Commands.{IsCheck, IsPlan, OfCommand, meaning_of}
 use Rattle.canpack_top.specs.Ending.{number_of}
 use Rattle.canpack_top.specs.Files.{problem_at}
 use Rattle.canpack_top.specs.Line.{refused_line}
-use Rattle.canpack_top.specs.Meaning.{Answer, Ends, Finishes, Meaning, Refuses}
+use Rattle.canpack_top.specs.Meaning.{Answer, Ends, Finishes, Meaning}
 use Rattle.canpack_top.specs.Plan.{IsPlanned, plan_meaning}
 use Rattle.canpack_top.specs.Verdict.{Finds, Holds, IsAccepted, IsRejected, Judged}
 use Rattle.canpack_top.proofs.Runs.{ok_and}

@@ -1,5 +1,5 @@
 -- How commands run.
-use Rattle.std.proofs.Common.{◌≡◌, ◌≢◌, ◌≤◌, ◌∙◌, ◌⊎◌, ℕ, List, [], ◌∷◌, arith, Option, None, Some, Result, Ok, Err, IfOk, IsOkAnd, IsErr, IsErrOf, IsSome, OnErr, OnOk, option_map, ap, sym, inl, inr, subst, refl}
+use Rattle.std.proofs.Common.{◌≡◌, ◌≢◌, ◌≤◌, ◌∙◌, ◌⊎◌, ℕ, List, [], ◌∷◌, arith, None, Some, Result, Ok, Err, IfOk, IsOkAnd, IsErr, IsErrOf, IsSome, OnErr, OnOk, option_map, ap, sym, inl, inr, subst, refl}
 use Rattle.std.specs.Prelude.{String}
 use Rattle.std.specs.Result.{result_err}
 use Rattle.std.specs.declared.alloc.Global.{Global}
@@ -17,18 +17,17 @@ use Rattle.canpack_top.specs.declared.ending.Stop.TheVariants as stop
 use Rattle.canpack_top.specs.declared.refusal.Refusal.{Refusal}
 use Rattle.canpack_top.specs.declared.verdict.Found.{Found}
 use Rattle.canpack_top.specs.declared.verdict.Found.TheVariants as found
-use Rattle.canpack_top.specs.Check.{Accepts, HasAll, IsAnswerOf, IsJudgement, check_answer, check_meaning, texts_at}
+use Rattle.canpack_top.specs.Check.{Accepts, HasAll, IsAnswerOf, check_answer, check_meaning, texts_at}
 use Rattle.canpack_top.specs.declared.command.Command.{Command}
 use Rattle.canpack_top.specs.Command.{Names}
 use Rattle.canpack_top.specs.Commands.{meaning_of}
-use Rattle.canpack_top.specs.Ending.{Gives}
 use Rattle.canpack_top.specs.Files.{problem_at}
 use Rattle.canpack_top.specs.Line.{refused_line}
-use Rattle.canpack_top.specs.Meaning.{Answer, Ends, Meaning, Runs, Stops, refused_answer, seen}
+use Rattle.canpack_top.specs.Meaning.{Ends, Meaning, Runs, Stops, seen}
 use Rattle.canpack_top.specs.Plan.{plan_answer, plan_meaning, planned_text}
 use Rattle.canpack_top.specs.Reads.{ReadsOnly, SomeRose, written_names}
 use Rattle.canpack_top.specs.Text.{placed_cert}
-use Rattle.canpack_top.specs.Verdict.{Finds, IsShown, Judged}
+use Rattle.canpack_top.specs.Verdict.{Finds, IsShown}
 use Rattle.canpack_top.specs.Write.{PartWritten, Written}
 use Rattle.canpack_top.proofs.Planned.{is_planned, is_part_planned}
 

@@ -1,5 +1,5 @@
 -- The line of an answer that was said, whole or in part.
-use Rattle.std.proofs.Common.{◌≡◌, ◌∙◌, ◌⊎◌, ℕ, List, Option, Some, IsSomeAnd, String, ap, arith, inl, inr, refl, subst, sym}
+use Rattle.std.proofs.Common.{◌≡◌, ◌∙◌, ◌⊎◌, ℕ, List, Option, Some, IsSomeAnd, String, ap, arith, inl, inr, subst, sym}
 use Rattle.std.specs.declared.alloc.Global.{Global}
 use Rattle.pack_base.specs.Outside.{Files, SaidPart, and_said}
 use Rattle.canpack_top.specs.declared.command.Command.{Command}

@@ -1,5 +1,5 @@
 -- What a folder whose reads never fail leaves of the statuses.
-use Rattle.std.proofs.Common.{◌≡◌, ◌⊎◌, ℕ, List, [], ◌∷◌, IsSome, IsSomeAnd, None, Option, Some, String, ap, arith, inl, inr, is_some, sym, true≢false, ◌∙◌}
+use Rattle.std.proofs.Common.{◌≡◌, ◌⊎◌, ℕ, List, [], ◌∷◌, IsSome, String, ap, arith, inl, inr, is_some, sym, true≢false, ◌∙◌}
 use Rattle.std.specs.declared.alloc.Global.{Global}
 use Rattle.pack_base.specs.Outside.{Files}
 use Rattle.canpack_top.specs.Answer.{IsExcused, IsRefused, WritesPart}

@@ -1,5 +1,5 @@
 -- What comes of a reader's fault.
-use Rattle.std.proofs.Common.{◌≡◌, Option, Some, None, Result, Ok, Err, option_map, ap, sym}
+use Rattle.std.proofs.Common.{Option, Some, None, Result, Err, option_map, ap, sym}
 use Rattle.csv_table.specs.Gives.{Explains}
 use Rattle.pack_model.specs.Problem.{Answers, Parts}
 use Rattle.pack_model.specs.declared.problem.ProblemFault.{ProblemFault}

@@ -16,7 +16,8 @@ IsAnswer words before now answer = OfCommand words (λ meaning. Ends meaning bef
 -- the command of the words ended with an answer of this status, and its line was said
 abbrev pub Answered : ℕ → List (String Global) → Files → Files → Option (List ℕ) → Option (List ℕ) → Type 0
 Answered status words before now said_before said_now =
-    (answer : Answer) × (status ≡ number_of answer.status) × IsAnswer words before now answer × (said_now ≡ and_said said_before answer.line)
+    (answer : Answer) × (status ≡ number_of answer.status) × IsAnswer words before now answer
+    × (said_now ≡ and_said said_before answer.line)
 
 -- the line that is due for these words, with the files after it
 abbrev pub IsDue : List (String Global) → Files → Files → List ℕ → Type 0
@@ -26,13 +27,15 @@ IsDue words before now line =
 
 -- a front of the line that is due was said
 abbrev pub SaysPart : List (String Global) → Files → Files → Option (List ℕ) → Option (List ℕ) → Type 0
-SaysPart words before now said_before said_now = (line : List ℕ) × IsDue words before now line × SaidPart line said_before said_now
+SaysPart words before now said_before said_now =
+    (line : List ℕ) × IsDue words before now line × SaidPart line said_before said_now
 
 -- the write faults of a file that the command writes rose, and of told files no text is refused, and they are as it
 -- leaves them at a write fault
 abbrev pub WritesPart : Files → Files → (List ℕ → ℕ) → (List ℕ → ℕ) → Meaning → Type 0
 WritesPart before now faults_before faults_now meaning = 
-    SomeRose meaning.writes faults_before faults_now × (IsSome before → (meaning.first_refusal before ≡ None) × meaning.LeavesPart before now)
+    SomeRose meaning.writes faults_before faults_now
+    × (IsSome before → (meaning.first_refusal before ≡ None) × meaning.LeavesPart before now)
 
 -- a text is refused
 abbrev pub IsRefused : Files → Meaning → Type 0

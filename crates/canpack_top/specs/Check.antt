@@ -1,10 +1,11 @@
 -- What `check` means.
-use Rattle.std.specs.Prelude.{◌≡◌, ⊤, ℕ, List, [], Result, Ok, Err, IsOkAnd, option_map}
+use Rattle.std.specs.Prelude.{◌≡◌, ⊤, ℕ, [], Result, Ok, Err, IsOkAnd, option_map}
 use Rattle.std.specs.Result.{result_err}
 use Rattle.csv_table.specs.Columns.{◌>>=◌}
 use Rattle.pack_base.specs.Outside.{Files}
 use Rattle.matrix_text.specs.OnePlace.{OnePlace}
 use Rattle.canpack_top.specs.declared.check.Judgement.{Judgement}
+use Rattle.canpack_top.specs.declared.ending.Status.{Status}
 use Rattle.canpack_top.specs.declared.ending.Status.TheVariants as status
 use Rattle.canpack_top.specs.declared.ending.Stop.{Stop}
 use Rattle.canpack_top.specs.declared.ending.Stop.TheVariants as stop
@@ -46,17 +47,22 @@ HasPassing names files = IsOkAnd (texts_at names files) FramesPass
 abbrev pub HasAll : Names → Files → Type 0
 HasAll names files = IsOkAnd (texts_at names files) Holds
 
+-- the status of what was found of texts that stand
+abbrev pub check_status : Found → Status
+check_status (found.Shown shown) = status.Done
+check_status (found.Rejected failed) = status.Rejected
+
 -- the answer with what was found of texts that stand, and their common period
 abbrev pub check_answer : ℕ → Found → Answer
-check_answer hyper (found.Shown shown) = record { status = status.Done; line = found_line hyper (found.Shown shown) }
-check_answer hyper (found.Rejected failed) = record { status = status.Rejected; line = found_line hyper (found.Rejected failed) }
+check_answer hyper what = record { status = check_status what; line = found_line hyper what }
 
 -- this is the answer of `check` with what the acceptance rule finds
 abbrev pub IsAnswerOf : Answer → Judged → Type 0
-IsAnswerOf answer judged = (what : Found) × Finds what judged × (answer ≡ check_answer judged.problem.hyper what)
+IsAnswerOf answer judged =
+    (what : Found) × Finds what judged × (answer ≡ check_answer judged.problem.hyper what)
 
--- `check` reads four files and writes none; it answers 0 where the acceptance rule holds, with the line of the verdict,
--- and 5 where it doesn't, with the line of the first part that fails
+-- `check` reads four files and writes none; it answers 0 where the acceptance rule holds, with the line of the
+-- verdict, and 5 where it doesn't, with the line of the first part that fails
 abbrev pub check_meaning : Names → Meaning
 check_meaning names = record {
   reads = check_names names;
@@ -70,7 +76,8 @@ check_meaning names = record {
 
 -- what was found of four files is what their texts say, a read fault and want of memory aside
 abbrev pub IsJudgement : Result Judgement Stop → Names → Files → Type 0
-IsJudgement (Ok given) names files = IsOkAnd (texts_at names files) (λ judged. Finds given.found judged × (given.hyper ≡ judged.problem.hyper))
+IsJudgement (Ok given) names files =
+    IsOkAnd (texts_at names files) (λ judged. Finds given.found judged × (given.hyper ≡ judged.problem.hyper))
 IsJudgement (Err (stop.Refused why)) names files = texts_at names files ≡ Err why
 IsJudgement (Err stop.ReadFault) names files = ⊤
 IsJudgement (Err stop.Memory) names files = ⊤

@@ -1,5 +1,5 @@
 -- The words of a command.
-use Rattle.std.specs.Prelude.{◌≡◌, ◌&&◌, ◌==◌, ℕ, Bool, List, [], length, map, not, codes, Option, None, Some, if◌then◌else◌, option_map, slice_index_or, IsTrue, String}
+use Rattle.std.specs.Prelude.{◌&&◌, ◌==◌, ℕ, Bool, List, [], length, map, not, codes, Option, None, Some, if◌then◌else◌, option_map, slice_index_or, String}
 use Rattle.std.specs.String.{string_bytes}
 use Rattle.std.specs.declared.alloc.Global.{Global}
 use Rattle.std.specs.Str.{bytes_eq}

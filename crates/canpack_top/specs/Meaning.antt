@@ -34,7 +34,7 @@ Stops (stop.Refused why) (Err halt.WriteFault) = ⊥
 Stops stop.ReadFault result = result ≡ Err halt.ReadFault
 Stops stop.Memory result = result ≡ Err halt.Memory
 
--- What a command means. What it has of files that aren't told are the names, the faults and the forms of its answers.
+-- What a command means. Of files that aren't told it says their names, and the forms of the answers.
 pub record Meaning : Type 1 where
   -- the names of the files that it reads
   pub reads : List (List ℕ)
@@ -75,11 +75,14 @@ abbrev pub Ends : Meaning → Files → Files → Answer → Type 0
 Ends meaning before now answer = Finishes meaning before now answer ⊎ Refuses meaning before now answer
 
 -- A command ran: it ended with an answer, or halted before.
-pub record Runs (meaning : Meaning) {F : Type 0} (files : F → Files) (read_faults write_faults given : F → List ℕ → ℕ) (old new : F) (result : Result GivenAnswer Halt) : Type 0 where
+pub record Runs (meaning : Meaning) {F : Type 0} (files : F → Files) (read_faults write_faults given : F → List ℕ → ℕ)
+    (old new : F) (result : Result GivenAnswer Halt) : Type 0 where
   pub ends : IfOk result (λ answer. Ends meaning (files old) (files new) (seen answer))
   pub read_fault : IsErrOf result halt.ReadFault → SomeRose meaning.reads (read_faults old) (read_faults new)
-  pub write_fault : IsErrOf result halt.WriteFault → SomeRose meaning.writes (write_faults old) (write_faults new)
-  pub part : IsErrOf result halt.WriteFault → IsSome (files old) → (meaning.first_refusal (files old) ≡ None) × meaning.LeavesPart (files old) (files new)
+  pub write_fault : IsErrOf result halt.WriteFault
+      → SomeRose meaning.writes (write_faults old) (write_faults new)
+  pub part : IsErrOf result halt.WriteFault → IsSome (files old)
+      → (meaning.first_refusal (files old) ≡ None) × meaning.LeavesPart (files old) (files new)
   pub same : IsErr result → IsErrOf result halt.WriteFault ⊎ (files new ≡ files old)
   pub idle : meaning.writes ≡ [] → files new ≡ files old
   pub later : Later read_faults write_faults given old new

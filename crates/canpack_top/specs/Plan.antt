@@ -1,5 +1,5 @@
 -- What `plan` means: each item gets a frame of its own.
-use Rattle.std.specs.Prelude.{◌≡◌, ℕ, List, [], ◌∷◌, IsOkAnd, option_map}
+use Rattle.std.specs.Prelude.{◌≡◌, ℕ, List, IsOkAnd, option_map}
 use Rattle.std.specs.Result.{result_err}
 use Rattle.pack_base.specs.Outside.{Files}
 use Rattle.pack_model.specs.Problem.{Parts}

@@ -11,7 +11,8 @@ pub record Written (first second : List ℕ) (first_text second_text : List ℕ)
   pub told : IsSome before → IsSome now
   pub first_whole : IsSome before → file_at now first ≡ Some first_text
   pub second_whole : IsSome before → file_at now second ≡ Some second_text
-  pub others : IsSome before → (other : List ℕ) → other ≢ first → other ≢ second → file_at now other ≡ file_at before other
+  pub others : IsSome before → (other : List ℕ) → other ≢ first → other ≢ second
+      → file_at now other ≡ file_at before other
 
 -- each of the two files is as before or holds a front of its text, the second is touched only where the first is
 -- whole, and all others are as before
@@ -19,5 +20,7 @@ pub record PartWritten (first second : List ℕ) (first_text second_text : List 
   pub told : IsSome before → IsSome now
   pub first_front : IsSome before → HoldsFront first_text (file_at before first) (file_at now first)
   pub second_front : IsSome before → HoldsFront second_text (file_at before second) (file_at now second)
-  pub in_order : IsSome before → (file_at now second ≡ file_at before second) ⊎ (file_at now first ≡ Some first_text)
-  pub others : IsSome before → (other : List ℕ) → other ≢ first → other ≢ second → file_at now other ≡ file_at before other
+  pub in_order : IsSome before → (file_at now second ≡ file_at before second)
+      ⊎ (file_at now first ≡ Some first_text)
+  pub others : IsSome before → (other : List ℕ) → other ≢ first → other ≢ second
+      → file_at now other ≡ file_at before other

@@ -1,6 +1,6 @@
 //! `check`: the checking of a certificate.
 ghost use Rattle.std.specs.Prelude.{◌≡◌, Err, IfOk, IsErrOf, IsSome, OnErr};
-ghost use Rattle.canpack_top.specs.Check.{HasAll, IsJudgement, check_answer, check_meaning};
+ghost use Rattle.canpack_top.specs.Check.{HasAll, IsJudgement, check_answer, check_meaning, check_status};
 ghost use Rattle.canpack_top.specs.Command.{names_of};
 ghost use Rattle.canpack_top.specs.Meaning.{Runs, seen};
 ghost use Rattle.canpack_top.specs.Reads.{ReadsOnly, SomeRose, check_names};
@@ -30,11 +30,13 @@ fn judgement_at<F: Folder>(
     folder: &mut F,
     names: Names<'_>,
 ) -> Result<Judgement, Stop>
-    ensures exact { IsSome (F.files folder.old) → IsJudgement result (names_of names.entry) (F.files folder.old) }
+    ensures exact { IsSome (F.files folder.old)
+        → IsJudgement result (names_of names.entry) (F.files folder.old) }
     ensures holds { IsSome (F.files folder.old)
         → IfOk result (λ given. IsShown given.found → HasAll (names_of names.entry) (F.files folder.old)) }
     ensures read_fault { IsErrOf result Stop.ReadFault
-        → SomeRose (check_names (names_of names.entry)) (F.read_faults folder.old) (F.read_faults folder.new) }
+        → SomeRose (check_names (names_of names.entry))
+            (F.read_faults folder.old) (F.read_faults folder.new) }
     ensures only { ReadsOnly F.files F.read_faults F.write_faults F.given folder.old folder.new }
 {
     let problem = read_problem(alloc, folder, names)?;
@@ -49,7 +51,7 @@ fn judgement_at<F: Folder>(
 
 /// The status of what was found.
 fn status_of(found: Found) -> Status
-    ensures { result ≡ (check_answer 0 found).status }
+    ensures { result ≡ check_status found }
 {
     match found {
         Found::Shown(_) => Status::Done,
@@ -72,7 +74,8 @@ fn judged_answer(alloc: Global, given: Judgement) -> Result<Answer, Halt>
 /// Answers what the four files say.
 #[tactic(none)]
 pub fn check<F: Folder>(alloc: Global, folder: &mut F, names: Names<'_>) -> Result<Answer, Halt>
-    ensures { Runs (check_meaning (names_of names.entry)) F.files F.read_faults F.write_faults F.given folder.old folder.new result }
+    ensures { Runs (check_meaning (names_of names.entry))
+        F.files F.read_faults F.write_faults F.given folder.old folder.new result }
 {
     match judgement_at(alloc, folder, names) {
         Ok(given) => judged_answer(alloc, given),

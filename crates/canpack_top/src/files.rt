@@ -26,7 +26,8 @@ const SIZE_LIMIT: u64 = (1 << 63) - 1;
 /// The network of a file.
 #[tactic(auto, unfolding(crate::specs::Files::network_at))]
 pub fn network_at<F: Folder>(alloc: Global, folder: &mut F, name: &str) -> Result<Network, Stop>
-    ensures exact { IsSome (F.files folder.old) → Gives (λ network. network) result (network_at (F.files folder.old) name.now) }
+    ensures exact { IsSome (F.files folder.old)
+        → Gives (λ network. network) result (network_at (F.files folder.old) name.now) }
     ensures stands { IfOk result NetworkStands }
     ensures read_fault { IsErrOf result Stop.ReadFault
         → FaultAt (F.read_faults folder.old) (F.read_faults folder.new) name.now }
@@ -39,7 +40,8 @@ pub fn network_at<F: Folder>(alloc: Global, folder: &mut F, name: &str) -> Resul
 /// The signals of a file.
 #[tactic(auto, unfolding(crate::specs::Files::signals_at))]
 pub fn signals_at<F: Folder>(alloc: Global, folder: &mut F, name: &str) -> Result<Vec<Signal>, Stop>
-    ensures exact { IsSome (F.files folder.old) → Gives (λ signals. signals.items) result (signals_at (F.files folder.old) name.now) }
+    ensures exact { IsSome (F.files folder.old)
+        → Gives (λ signals. signals.items) result (signals_at (F.files folder.old) name.now) }
     ensures stand { IfOk result (λ signals. All SignalStands signals.items) }
     ensures read_fault { IsErrOf result Stop.ReadFault
         → FaultAt (F.read_faults folder.old) (F.read_faults folder.new) name.now }
@@ -52,7 +54,8 @@ pub fn signals_at<F: Folder>(alloc: Global, folder: &mut F, name: &str) -> Resul
 /// The matrix of a file.
 #[tactic(auto, unfolding(crate::specs::Files::matrix_at))]
 pub fn matrix_at<F: Folder>(alloc: Global, folder: &mut F, name: &str) -> Result<Matrix, Stop>
-    ensures exact { IsSome (F.files folder.old) → Gives (λ matrix. matrix) result (matrix_at (F.files folder.old) name.now) }
+    ensures exact { IsSome (F.files folder.old)
+        → Gives (λ matrix. matrix) result (matrix_at (F.files folder.old) name.now) }
     ensures read_fault { IsErrOf result Stop.ReadFault
         → FaultAt (F.read_faults folder.old) (F.read_faults folder.new) name.now }
     ensures only { ReadsOnly F.files F.read_faults F.write_faults F.given folder.old folder.new }
@@ -64,7 +67,8 @@ pub fn matrix_at<F: Folder>(alloc: Global, folder: &mut F, name: &str) -> Result
 /// The certificate of a file, which is of the kind `placed` or `timed`.
 #[tactic(auto, unfolding(crate::specs::Files::cert_at))]
 pub fn cert_at<F: Folder>(alloc: Global, folder: &mut F, name: &str) -> Result<Cert, Stop>
-    ensures exact { IsSome (F.files folder.old) → Gives (λ cert. cert) result (cert_at (F.files folder.old) name.now) }
+    ensures exact { IsSome (F.files folder.old)
+        → Gives (λ cert. cert) result (cert_at (F.files folder.old) name.now) }
     ensures kind { IfOk result (λ cert. HasText cert.kind) }
     ensures read_fault { IsErrOf result Stop.ReadFault
         → FaultAt (F.read_faults folder.old) (F.read_faults folder.new) name.now }

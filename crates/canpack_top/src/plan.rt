@@ -36,7 +36,8 @@ fn planned_text(alloc: Global, problem: &Problem) -> Result<Vec<u8>, Memory>
     write_matrix(alloc, &matrix)
 }
 
-/// Writes a problem's matrix and its certificate. All memory, that of the line too, is taken before the first write.
+/// Writes a problem's matrix and its certificate. All memory, that of the line too, is taken before the first
+/// write.
 fn write_plan<F: Folder>(
     alloc: Global,
     folder: &mut F,
@@ -73,7 +74,8 @@ fn write_plan<F: Folder>(
 #[tactic(none)]
 pub fn plan<F: Folder>(alloc: Global, folder: &mut F, names: Names<'_>) -> Result<Answer, Halt>
     requires { IsTrue (are_names (names_of names)) }
-    ensures { Runs (plan_meaning (names_of names.entry)) F.files F.read_faults F.write_faults F.given folder.old folder.new result }
+    ensures { Runs (plan_meaning (names_of names.entry))
+        F.files F.read_faults F.write_faults F.given folder.old folder.new result }
 {
     match read_problem(alloc, folder, names) {
         Ok(problem) => write_plan(alloc, folder, names, &problem),

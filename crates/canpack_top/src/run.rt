@@ -20,7 +20,8 @@ pub fn run<F: Folder>(
 ) -> Result<Answer, Halt>
     requires count { 6 ≤ length words.now }
     requires names { IsTrue (are_names (names_in words.now)) }
-    ensures { Runs (meaning_of command words.now) F.files F.read_faults F.write_faults F.given folder.old folder.new result }
+    ensures { Runs (meaning_of command words.now)
+        F.files F.read_faults F.write_faults F.given folder.old folder.new result }
 {
     let names = names_in(words);
     match command {

@@ -13,8 +13,8 @@ use pack_base::{Gate, NullSink, SteadyFolder};
 use std::alloc::Global;
 use std::thread::Threads;
 
-/// `canpack` over files whose reads never fail and a sink that takes everything: the words and the files alone decide
-/// the status, want of memory aside, and for `plan` a write fault.
+/// `canpack` over files whose reads never fail and a sink that takes everything: the words and the files alone
+/// decide the status, want of memory aside, and for `plan` a write fault.
 pub fn canpack_steady<R: Threads, G: Gate + Sync>(
     rt: &R,
     alloc: Global,
@@ -27,10 +27,12 @@ pub fn canpack_steady<R: Threads, G: Gate + Sync>(
     ensures refuses { OfCommand words.now (IsRefused (files_of folder.old)) → (result ≡ 4) ⊎ (result ≡ 6) }
 
     ensures no_write_fault { IsCheck words.now → result ≢ 3 }
-    ensures accepts { IsCheck words.now → Accepts (names_in words.now) (files_of folder.old) → (result ≡ 0) ⊎ (result ≡ 6) }
+    ensures accepts { IsCheck words.now → Accepts (names_in words.now) (files_of folder.old)
+        → (result ≡ 0) ⊎ (result ≡ 6) }
     ensures rejects { IsCheck words.now → IsOk (texts_at (names_in words.now) (files_of folder.old))
         → ¬ Accepts (names_in words.now) (files_of folder.old) → (result ≡ 5) ⊎ (result ≡ 6) }
-    ensures one_place { result ≡ 0 → IsCheck words.now → HasOnePlace (names_in words.now) (files_of folder.old) }
+    ensures one_place { result ≡ 0 → IsCheck words.now
+        → HasOnePlace (names_in words.now) (files_of folder.old) }
     ensures passes { result ≡ 0 → IsCheck words.now → HasPassing (names_in words.now) (files_of folder.old) }
     ensures files { IsCheck words.now → files_of folder.new ≡ files_of folder.old }
 

@@ -5,7 +5,8 @@ use crate::ending::{Answer, Halt, Status, Stop};
 use crate::line::refused_line;
 use std::alloc::Global;
 
-/// The answer with the line of a refusal, or the halt; want of memory comes of a refusal only where its line finds none.
+/// The answer with the line of a refusal, or the halt; of a refusal want of memory comes only where its line finds
+/// none.
 pub fn answer_of(alloc: Global, stop: Stop) -> Result<Answer, Halt>
     ensures { Stops stop result }
 {

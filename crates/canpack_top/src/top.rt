@@ -50,21 +50,26 @@ fn status_of<F: Folder, O: Sink>(
     folder: &mut F,
     out: &mut O,
 ) -> u8
-    ensures usage { result ≡ 1 → IsNone (command_of words.now) × (O.said out.new ≡ and_said (O.said out.old) usage_line) }
+    ensures usage { result ≡ 1 → IsNone (command_of words.now)
+        × (O.said out.new ≡ and_said (O.said out.old) usage_line) }
     ensures only_usage { IsNone (command_of words.now) → (result ≡ 1) ⊎ (result ≡ 7) }
     ensures answered { IsAnswered result
-        → Answered result words.now (F.files folder.old) (F.files folder.new) (O.said out.old) (O.said out.new) }
+        → Answered result words.now
+            (F.files folder.old) (F.files folder.new) (O.said out.old) (O.said out.new) }
     ensures read_fault { result ≡ 2
-        → OfCommand words.now (λ meaning. SomeRose meaning.reads (F.read_faults folder.old) (F.read_faults folder.new)) }
+        → OfCommand words.now (λ meaning.
+            SomeRose meaning.reads (F.read_faults folder.old) (F.read_faults folder.new)) }
     ensures write_fault { result ≡ 3
-        → OfCommand words.now (WritesPart (F.files folder.old) (F.files folder.new) (F.write_faults folder.old) (F.write_faults folder.new)) }
+        → OfCommand words.now (WritesPart (F.files folder.old) (F.files folder.new)
+            (F.write_faults folder.old) (F.write_faults folder.new)) }
     ensures say_fault { result ≡ 7 → Rose (O.faults out.old) (O.faults out.new) }
     ensures part_said { result ≡ 7
         → SaysPart words.now (F.files folder.old) (F.files folder.new) (O.said out.old) (O.said out.new) }
     ensures statuses { (result ≡ 1) ⊎ IsAnswered result ⊎ IsExcused result }
     ensures nothing_said { SaysNothing result → O.said out.new ≡ O.said out.old }
     ensures same { LeavesFiles result → F.files folder.new ≡ F.files folder.old }
-    ensures idle { OfCommand words.now (λ meaning. meaning.writes ≡ []) → F.files folder.new ≡ F.files folder.old }
+    ensures idle { OfCommand words.now (λ meaning. meaning.writes ≡ [])
+        → F.files folder.new ≡ F.files folder.old }
     ensures later { Later F.read_faults F.write_faults F.given folder.old folder.new }
     ensures said_later { O.faults out.old ≤ O.faults out.new }
 {
@@ -79,8 +84,8 @@ fn status_of<F: Folder, O: Sink>(
     }
 }
 
-/// Does what the words ask for, and answers the status: 0 done, 1 usage, 2 a read fault, 3 a write fault, 4 a refused
-/// text, 5 a rejected certificate, 6 want of memory, 7 a fault in saying the line.
+/// Does what the words ask for, and answers the status: 0 done, 1 usage, 2 a read fault, 3 a write fault, 4 a
+/// refused text, 5 a rejected certificate, 6 want of memory, 7 a fault in saying the line.
 pub fn canpack<R: Threads, F: Folder, O: Sink, G: Gate + Sync>(
     _rt: &R,
     alloc: Global,
@@ -90,13 +95,17 @@ pub fn canpack<R: Threads, F: Folder, O: Sink, G: Gate + Sync>(
     _gate: &G,
 ) -> u8
     // The cause of each status, with what was said and what is left of the files.
-    ensures usage { result ≡ 1 → IsNone (command_of words.now) × (O.said out.new ≡ and_said (O.said out.old) usage_line) }
+    ensures usage { result ≡ 1 → IsNone (command_of words.now)
+        × (O.said out.new ≡ and_said (O.said out.old) usage_line) }
     ensures answered { IsAnswered result
-        → Answered result words.now (F.files folder.old) (F.files folder.new) (O.said out.old) (O.said out.new) }
+        → Answered result words.now
+            (F.files folder.old) (F.files folder.new) (O.said out.old) (O.said out.new) }
     ensures read_fault { result ≡ 2
-        → OfCommand words.now (λ meaning. SomeRose meaning.reads (F.read_faults folder.old) (F.read_faults folder.new)) }
+        → OfCommand words.now (λ meaning.
+            SomeRose meaning.reads (F.read_faults folder.old) (F.read_faults folder.new)) }
     ensures write_fault { result ≡ 3
-        → OfCommand words.now (WritesPart (F.files folder.old) (F.files folder.new) (F.write_faults folder.old) (F.write_faults folder.new)) }
+        → OfCommand words.now (WritesPart (F.files folder.old) (F.files folder.new)
+            (F.write_faults folder.old) (F.write_faults folder.new)) }
     ensures say_fault { result ≡ 7 → Rose (O.faults out.old) (O.faults out.new) }
     ensures part_said { result ≡ 7
         → SaysPart words.now (F.files folder.old) (F.files folder.new) (O.said out.old) (O.said out.new) }
@@ -108,7 +117,8 @@ pub fn canpack<R: Threads, F: Folder, O: Sink, G: Gate + Sync>(
 
     // The words and the told files decide, a fault and want of memory aside.
     ensures only_usage { IsNone (command_of words.now) → (result ≡ 1) ⊎ (result ≡ 7) }
-    ensures refused { result ≡ 4 → IsSome (F.files folder.old) → OfCommand words.now (IsRefused (F.files folder.old)) }
+    ensures refused { result ≡ 4 → IsSome (F.files folder.old)
+        → OfCommand words.now (IsRefused (F.files folder.old)) }
     ensures refuses { IsSome (F.files folder.old) → OfCommand words.now (IsRefused (F.files folder.old))
         → (result ≡ 4) ⊎ IsExcused result }
 
@@ -121,9 +131,11 @@ pub fn canpack<R: Threads, F: Folder, O: Sink, G: Gate + Sync>(
         → HasPassing (names_in words.now) (F.files folder.old) }
     ensures rejected { result ≡ 5 → IsSome (F.files folder.old) → IsCheck words.now
         → Rejects (names_in words.now) (F.files folder.old) }
-    ensures accepts { IsSome (F.files folder.old) → IsCheck words.now → Accepts (names_in words.now) (F.files folder.old)
+    ensures accepts { IsSome (F.files folder.old) → IsCheck words.now
+        → Accepts (names_in words.now) (F.files folder.old)
         → (result ≡ 0) ⊎ IsExcused result }
-    ensures rejects { IsSome (F.files folder.old) → IsCheck words.now → IsOk (texts_at (names_in words.now) (F.files folder.old))
+    ensures rejects { IsSome (F.files folder.old) → IsCheck words.now
+        → IsOk (texts_at (names_in words.now) (F.files folder.old))
         → ¬ Accepts (names_in words.now) (F.files folder.old) → (result ≡ 5) ⊎ IsExcused result }
     ensures check { IsCheck words.now → F.files folder.new ≡ F.files folder.old }
 
@@ -132,7 +144,8 @@ pub fn canpack<R: Threads, F: Folder, O: Sink, G: Gate + Sync>(
         → IsPlanned (names_in words.now) (F.files folder.old) (F.files folder.new) }
     ensures accepted_after { result ≡ 0 → IsSome (F.files folder.old) → IsPlan words.now
         → Accepts (names_in words.now) (F.files folder.new) }
-    ensures plans { IsSome (F.files folder.old) → IsPlan words.now → IsOk (problem_at (names_in words.now) (F.files folder.old))
+    ensures plans { IsSome (F.files folder.old) → IsPlan words.now
+        → IsOk (problem_at (names_in words.now) (F.files folder.old))
         → (result ≡ 0) ⊎ IsExcused result }
 {
     status_of(alloc, words, folder, out)

@@ -1,7 +1,15 @@
 //! What the acceptance rule finds of a certificate, and its lines.
 ghost use Rattle.std.specs.Prelude.{◌≡◌, ◌^◌, ◌<◌, IfOk, string_bytes};
 ghost use Rattle.cert_text.specs.Parts.{HasText};
-ghost use Rattle.canpack_top.specs.Verdict.{Finds, Holds, IsShown, found_line, found_of, rejected_line, verdict_line};
+ghost use Rattle.canpack_top.specs.Verdict.{
+  Finds,
+  Holds,
+  IsShown,
+  found_line,
+  found_of,
+  rejected_line,
+  verdict_line,
+};
 
 use cert_check::{CheckFault, Verdict, check_cert};
 use cert_text::Cert;
@@ -42,8 +50,8 @@ fn found_of(answer: Result<Verdict, CheckFault>) -> Option<Found>
     }
 }
 
-/// Judges a certificate of the kind `placed` or `timed`: what it shows of a problem's matrix, or the first part of the
-/// acceptance rule that doesn't hold.
+/// Judges a certificate of the kind `placed` or `timed`: what it shows of a problem's matrix, or the first part of
+/// the acceptance rule that doesn't hold.
 pub fn judge(
     alloc: Global,
     problem: &Problem,
@@ -51,7 +59,8 @@ pub fn judge(
     cert: &Cert,
 ) -> Result<Found, Memory>
     requires { HasText cert.now.kind }
-    ensures finds { IfOk result (λ what. Finds what (record { problem = problem.now; matrix = matrix.now; cert = cert.now })) }
+    ensures finds { IfOk result (λ what. Finds what
+        (record { problem = problem.now; matrix = matrix.now; cert = cert.now })) }
     ensures holds { IfOk result (λ what. IsShown what
         → Holds (record { problem = problem.now; matrix = matrix.now; cert = cert.now })) }
 {

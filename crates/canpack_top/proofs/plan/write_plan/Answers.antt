@@ -1,7 +1,7 @@
-use Rattle.std.proofs.Common.{◌≡◌, ◌≢◌, ◌≤◌, IsSome, Ok, length, arith, rules}
+use Rattle.std.proofs.Common.{◌≡◌, ◌≢◌, ◌≤◌, Ok, length, arith, rules}
 use Rattle.matrix_text.specs.LaidOut.{rows_one_each}
 use Rattle.canpack_top.specs.Command.{Names, names_of}
-use Rattle.canpack_top.specs.Files.{problem_at, size_limit}
+use Rattle.canpack_top.specs.Files.{size_limit}
 use Rattle.canpack_top.specs.Plan.{planned_text}
 use Rattle.canpack_top.specs.Text.{matrix_in}
 use Rattle.canpack_top.proofs.Accepted.{written_accepted, written_matrix}
