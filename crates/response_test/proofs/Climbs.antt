@@ -7,6 +7,7 @@ use Rattle.busy_period.specs.Timed.{IsInRange}
 use Rattle.busy_period.specs.Stage.{IsStage, own_number, own_of, higher_of, lower_of}
 use Rattle.busy_period.specs.Demand.{instances_of, demand_of}
 use Rattle.busy_period.specs.Busy.{IsBusy}
+use Rattle.busy_period.proofs.Instances.{below_quotient}
 use Rattle.busy_period.proofs.Least.{least_unique}
 use Rattle.busy_period.proofs.Stages.{demand-le, own_is_in_range}
 use Rattle.response_test.specs.Queueing.{IsBit, queueing_of}
@@ -15,7 +16,8 @@ use Rattle.response_test.specs.Frame.{FramePasses, HasInstance}
 use Rattle.response_test.specs.Chain.{IsChain, IsClimb, last_of}
 use Rattle.response_test.specs.Refuted.{IsFirstLate, IsLong, IsLongClimb, first_long, first_with, first_late}
 use Rattle.response_test.proofs.Chains.{chain-le}
-use Rattle.response_test.proofs.Starts.{below_quotient, queueing-le, starts_before_end}
+use Rattle.response_test.proofs.Starts.{queueing-le}
+use Rattle.response_test.proofs.Level.{starts_before_end_at}
 use Rattle.response_test.proofs.Verdicts.{instance_passes}
 
 -- a climb no higher than 2^45 is a chain
@@ -120,7 +122,7 @@ pub queue_climb_uncut : (frames : List Timed) (order : List ℕ) (place bit inst
     → IsClimb (queueing_of frames order place bit instance) 0 until times
 queue_climb_uncut frames order place bit instance until times stage is_bit has climb =
     let range : IsInRange (own_of frames order place) = own_is_in_range frames order place stage in
-    let start = starts_before_end frames order place bit instance has.busy stage is_bit has.least.busy.holds has.inside in
+    let start = starts_before_end_at frames order place bit instance has.busy stage is_bit has.least.busy.holds has.inside in
     climb_uncut (queueing_of frames order place bit instance) 0 until (2 ^ 45) times (has.busy - (own_of frames order place).ticks)
     (queueing-le frames (own_number order place) (higher_of order place) (lower_of order place) bit instance)
     (omega arith) (omega arith) start.1 (omega (arith, has.least.short, range.period)) climb

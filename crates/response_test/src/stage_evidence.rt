@@ -1,5 +1,5 @@
 //! The evidence of a stage whose frame doesn't pass.
-ghost use Rattle.std.specs.Prelude.{ℕ, ◌≡◌, ◌<◌, ◌^◌, ◌↔◌, List, IfOk, IfSome, IfNone, IsNone};
+ghost use Rattle.std.specs.Prelude.{ℕ, ◌≡◌, ◌<◌, ◌≤◌, ◌^◌, ◌↔◌, List, IfOk, IfSome, IfNone, IsNone, IsTrue};
 ghost use Rattle.busy_period.specs.Busy.{FrameBusy, FrameLeastBusy};
 ghost use Rattle.busy_period.specs.Demand.{demand_of};
 ghost use Rattle.busy_period.specs.Stage.{IsStage};
@@ -7,14 +7,14 @@ ghost use Rattle.busy_period.specs.declared.timed.Timed.{Timed};
 ghost use Rattle.response_test.specs.declared.evidence.Evidence.{Evidence};
 ghost use Rattle.response_test.specs.Chain.{IsChain, IsClimb, first_above};
 ghost use Rattle.response_test.specs.Queueing.{IsBit, queueing_of};
-ghost use Rattle.response_test.specs.Frame.{FramePasses, HasInstance};
+ghost use Rattle.response_test.specs.Frame.{FrameInstancePasses, FramePasses, HasInstance};
 ghost use Rattle.response_test.specs.Refuted.{IsCommon, IsFirstLate, IsEvidenceOfStage, IsLong, IsLongClimb, Refuted, first_late, first_with};
 
 use crate::chain::{MAX_TIME, level_climb, queue_climb};
 use crate::evidence::Evidence;
+use crate::queue::{latest_start, least_start};
 use crate::refutation::is_over;
-use crate::written::instance_passes;
-use busy_period::{MAX_INSTANCES, Timed, blocking, least_busy};
+use busy_period::{MAX_INSTANCES, Timed, least_busy};
 use pack_model::{Chain, Memory};
 use std::alloc::Global;
 
@@ -26,6 +26,27 @@ fn time_above(limit: u64, added: u64) -> u64
     (limit + 1).saturating_sub(added)
 }
 
+/// Whether an instance of the frame at `place` ends by its deadline where it starts as early as it can. `instance` is
+/// at most 256.
+fn instance_passes_at(
+    frames: &[Timed],
+    order: &[u32],
+    place: usize,
+    bit: u64,
+    instance: u64,
+) -> bool
+    requires stage { IsStage frames.now order.now place }
+    requires bit { IsBit frames.now bit }
+    requires instance { instance ≤ 256 }
+    ensures { IsTrue result ↔ FrameInstancePasses frames.now order.now place bit instance }
+{
+    let own = frames[order[place] as usize];
+    let Some(latest) = latest_start(own, instance) else {
+        return false;
+    };
+    least_start(frames, order, place, bit, instance, latest).is_some()
+}
+
 /// The number of the first instance in the busy period that doesn't pass; None where each passes.
 fn first_failing(frames: &[Timed], order: &[u32], place: usize, bit: u64, busy: u64) -> Option<u64>
     requires stage { IsStage frames.now order.now place }
@@ -35,9 +56,8 @@ fn first_failing(frames: &[Timed], order: &[u32], place: usize, bit: u64, busy: 
     ensures passes { IfNone result (FramePasses frames.now order.now place bit) }
 {
     let own = frames[order[place] as usize];
-    let blocked = blocking(frames, order, place);
     for instance in 0..own.instances(busy) {
-        if !instance_passes(frames, order[place], &order[..place], blocked, bit, instance) {
+        if !instance_passes_at(frames, order, place, bit, instance) {
             return Some(instance);
         }
     }

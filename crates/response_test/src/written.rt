@@ -10,7 +10,7 @@ use busy_period::{MAX_INSTANCES, Timed, blocking, least_busy, least_fit};
 
 /// Whether an instance of a frame ends by its deadline where it starts as early as it can, against higher frames and
 /// lower ones that block it for `blocked` ticks. `instance` is at most 256.
-pub(crate) fn instance_passes(
+fn instance_passes(
     frames: &[Timed],
     own: u32,
     higher: &[u32],
