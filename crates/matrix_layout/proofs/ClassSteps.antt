@@ -1,15 +1,14 @@
 -- The items of each class by their numbers, and the steps of the loop over the classes.
-use Rattle.std.proofs.Common.{◌≡◌, ℕ, ◌+◌, ◌<◌, ◌≤◌, Bool, true, false, cond, List, [], ◌∷◌, ◌++◌, length, map, take, get_or, nat_eq, suc, All, Option, Some, refl, sym, ap, subst, ◌∙◌, arith, zero-add, append-nil}
+use Rattle.std.proofs.Common.{◌≡◌, ℕ, ◌+◌, ◌<◌, Bool, true, false, cond, List, [], ◌∷◌, ◌++◌, length, map, take, get_or, nat_eq, suc, All, Option, Some, refl, sym, ap, subst, ◌∙◌, arith, zero-add, append-nil}
 use Rattle.std.specs.List.{cons_option, flat_map, filter_map, enumerate_from, range_with_len, slice_get}
 use Rattle.std.proofs.lemmas.Grind.{flat_map-append}
 use Rattle.std.proofs.lemmas.List.{get_or-map, take_more}
 use Rattle.std.proofs.lemmas.List.FromFn.{get_or-map-range_with_len, get_or-range_with_len, length-enumerate_from, length-range_with_len, get_or-enumerate_from}
 use Rattle.std.proofs.lemmas.Option.{slice_get-get_or}
 use Rattle.pack_model.specs.declared.item.Item.{Item}
-use Rattle.pack_model.specs.Problem.{Parts, IsProblem}
+use Rattle.pack_model.specs.Problem.{Parts}
 use Rattle.class_frame.specs.Grouping.{class_of, IsOrder}
 use Rattle.class_frame.proofs.GroupingLaws.{All-class_of, class_of-cons, length-order}
-use Rattle.pack_model.proofs.Laws.{tests}
 use Rattle.class_frame.specs.Legal.{ClassStands, IsLegal}
 use Rattle.matrix_layout.specs.ClassItems.{items_at, numbers_of_class}
 use Rattle.matrix_layout.specs.LaidOut.{rows_of_class}
@@ -36,16 +35,6 @@ module _ {X : Type 0} where
           ∙ ap (λ ys. x ∷ ys) rest
       by false rest = rest
 
-  -- a class has no more elements than there are
-  pub length-class_of : (k : ℕ) (labels : List ℕ) (xs : List X) → length (class_of k labels xs) ≤ length xs
-  length-class_of k [] xs = omega arith
-  length-class_of k (label ∷ labels) [] = omega arith
-  length-class_of k (label ∷ labels) (x ∷ xs) = by (nat_eq label k) (ap length (class_of-cons k label labels x xs)) (length-class_of k labels xs)
-    where
-      by : (b : Bool) → length (class_of k (label ∷ labels) (x ∷ xs)) ≡ length (cond b (x ∷ class_of k labels xs) (class_of k labels xs)) → length (class_of k labels xs) ≤ length xs → length (class_of k (label ∷ labels) (x ∷ xs)) ≤ length (x ∷ xs)
-      by true same rest = omega arith
-      by false same rest = omega arith
-
 -- the items with the numbers of a class are the class
 pub items_at-class : (items : List Item) (labels : List ℕ) (k : ℕ) → length labels ≡ length items → items_at items (numbers_of_class labels k) ≡ class_of k labels items
 items_at-class items labels k same =
@@ -58,10 +47,6 @@ numbers_inside labels k n same =
     let within : i < length labels = simp length-range_with_len at lt in
     omega (arith, get_or-range_with_len 0 (length labels) i d within))
 
--- and there are no more of them than labels
-pub length-numbers : (labels : List ℕ) (k : ℕ) → length (numbers_of_class labels k) ≤ length labels
-length-numbers labels k = omega (arith, length-class_of k labels (range_with_len 0 (length labels)), length-range_with_len 0 (length labels))
-
 -- the list of a class
 pub list_of_class : {X Y : Type 0} (vecs : List X) (f : X → List Y) (g : ℕ → List Y) (classes k : ℕ) (v : X) → map f vecs ≡ map g (range_with_len 0 classes) → k < classes → k < length vecs → v ≡ get_or vecs k v → f v ≡ g k
 list_of_class vecs f g classes k v same lt within at =
@@ -71,13 +56,12 @@ list_of_class vecs f g classes k v same lt within at =
 pub record ClassNumbers (problem : Parts) (labels : List ℕ) (label : ℕ) (numbers : List ℕ) : Type 0 where
   pub is : items_at problem.items numbers ≡ class_of label labels problem.items
   pub inside : All (λ number. number < length problem.items) numbers
-  pub few : length numbers ≤ 128
   pub stands : ClassStands (items_at problem.items numbers)
 
 -- so are those of the class that the order names at a place, as they are read from the lists of all classes
-pub class_numbers : {X : Type 0} (problem : Parts) (labels order : List ℕ) (vecs : List X) (f : X → List ℕ) (number : ℕ) (v : X) (numbers : List ℕ) → IsProblem problem → IsLegal problem.items labels → IsOrder labels order
+pub class_numbers : {X : Type 0} (problem : Parts) (labels order : List ℕ) (vecs : List X) (f : X → List ℕ) (number : ℕ) (v : X) (numbers : List ℕ) → IsLegal problem.items labels → IsOrder labels order
     → map f vecs ≡ map (numbers_of_class labels) (range_with_len 0 (length order)) → number < length order → v ≡ get_or vecs (get_or order number 0) v → numbers ≡ f v → ClassNumbers problem labels (get_or order number 0) numbers
-class_numbers problem labels order vecs f number v numbers stands legal named lists lt at read =
+class_numbers problem labels order vecs f number v numbers legal named lists lt at read =
     let long = length-order labels order named in
     let below : get_or order number 0 < length order = omega (arith, named.only number 0 lt) in
     let within : get_or order number 0 < length vecs = omega (arith, length_of_classes vecs f (numbers_of_class labels) (length order) lists) in
@@ -86,7 +70,6 @@ class_numbers problem labels order vecs f number v numbers stands legal named li
     subst (ClassNumbers problem labels (get_or order number 0)) here (record {
       is = class;
       inside = numbers_inside labels (get_or order number 0) (length problem.items) legal.grouping.each;
-      few = omega (arith, length-numbers labels (get_or order number 0), legal.grouping.each, (tests problem stands).few_items);
       stands = subst ClassStands (sym class) (legal.classes (get_or order number 0));
     })
 

@@ -1,17 +1,17 @@
 //! What the rows of one frame share.
-ghost use Rattle.std.specs.Prelude.{◌≡◌, ◌≤◌, ◌<◌, All, IfOk, length};
+ghost use Rattle.std.specs.Prelude.{◌≡◌, IfOk, List};
+ghost use Rattle.pack_model.specs.declared.item.Item.{Item};
 ghost use Rattle.pack_model.specs.Network.{NetworkStands};
-ghost use Rattle.class_frame.specs.Legal.{ClassStands};
-ghost use Rattle.matrix_layout.specs.ClassItems.{figures, items_at};
+ghost use Rattle.pack_model.specs.Problem.{Parts};
+ghost use Rattle.class_frame.specs.Sums.{AreSums, IsSmall};
+ghost use Rattle.matrix_layout.specs.ClassItems.{figures};
 ghost use Rattle.matrix_layout.specs.LaidOut.{figures_of, row_with};
 
-use crate::class_items::{bytes_at, ids_at};
-use matrix_rows::MatrixRow;
-use container_pdu::{Header, header_kind};
-use fd_length::fd_size;
+use class_frame::Sums;
+use container_pdu::Header;
 use frame_ticks::worst_ticks;
-use pack_model::{Item, Memory, Network, Signal};
-use std::alloc::Global;
+use matrix_rows::MatrixRow;
+use pack_model::{Memory, Network, Signal};
 
 /// The figures of a frame that stand in each of its rows.
 #[derive(Clone, Copy)]
@@ -26,34 +26,20 @@ pub struct Frame {
     pub header: Header,
 }
 
-/// The frame of an identifier that has the items of these numbers.
-pub fn frame_of(
-    alloc: Global,
-    network: &Network,
-    id: u32,
-    items: &[Item],
-    numbers: &[u32],
-) -> Result<Frame, Memory>
+/// The frame of an identifier that has items of these sums, with the least data length for their bytes.
+pub fn frame_of(network: &Network, id: u32, sums: Sums) -> Frame
     requires network { NetworkStands network.now }
-    requires inside { All (λ number. number < length items.now) numbers.now }
-    requires few { length numbers.now ≤ 128 }
-    requires small { All (λ item. item.bits ≤ 512) items.now }
-    requires class { ClassStands (items_at items.now numbers.now) }
-    ensures { IfOk result (λ frame. figures frame ≡ figures_of network.now id (items_at items.now numbers.now)) }
+    requires small { IsSmall sums }
+    ensures { (problem : Parts) (items : List Item) → AreSums problem items sums
+        → figures result ≡ figures_of network.now id items }
 {
-    let ids = ids_at(alloc, items, numbers)?;
-    let bytes = bytes_at(alloc, items, numbers, ids.as_slice())?;
-    let Some(size) = fd_size(bytes) else {
-        unreachable!()
-    };
-    let ticks = worst_ticks(network, size);
-    let header = header_kind(ids.as_slice());
-    Ok(Frame {
+    let size = sums.size().unwrap_or(0);
+    Frame {
         id,
         size,
-        ticks,
-        header,
-    })
+        ticks: worst_ticks(network, size),
+        header: sums.header(),
+    }
 }
 
 impl Frame {

@@ -8,9 +8,9 @@ ghost use Rattle.matrix_layout.specs.LaidOut.{figures_of, parts_from, rows_of_it
 
 use crate::class_items::places_at;
 use crate::frame::Frame;
-use matrix_rows::MatrixRow;
 use container_pdu::Header;
 use ipdu_layout::lay;
+use matrix_rows::MatrixRow;
 use pack_model::{Memory, Problem, Signal};
 use std::alloc::Global;
 

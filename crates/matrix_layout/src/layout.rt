@@ -11,6 +11,7 @@ ghost use Rattle.placed_matrix.specs.Placed.{Placed};
 use crate::classes::items_by_class;
 use crate::frame::frame_of;
 use crate::frame_rows::add_frame;
+use class_frame::class_sums;
 use matrix_rows::{Matrix, MatrixRow};
 use pack_model::{Memory, Problem};
 use std::alloc::{AllocError, Global};
@@ -72,11 +73,12 @@ fn laid_rows(
     let network = problem.network();
     let items = problem.items();
     let classes = items_by_class(alloc, labels, order.len())?;
+    let sums = class_sums(problem, items, labels);
     let mut rows = Vec::with_capacity(alloc, problem.signals().len())?;
     for (number, &label) in order.iter().enumerate() {
         let id = network.first_id + number as u32;
         let class = classes[label as usize].as_slice();
-        let frame = frame_of(alloc, network, id, items, class)?;
+        let frame = frame_of(network, id, sums[label as usize]);
         add_frame(alloc, &frame, problem, class, &mut rows)?;
     }
     Ok(rows)
