@@ -1,3 +1,4 @@
+pub mod KindLaws
 pub mod LabelLaws
-pub mod Stages
 pub mod Lines
+pub mod Stages
