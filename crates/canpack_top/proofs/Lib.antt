@@ -1,5 +1,9 @@
-pub mod Said
+pub mod Stops
 pub mod Fronts
 pub mod Planned
 pub mod ReadTwice
 pub mod Accepted
+pub mod Runs
+pub mod Said
+pub mod CommandLaws
+pub mod SteadyLaws

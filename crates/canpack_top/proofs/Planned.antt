@@ -2,7 +2,7 @@
 use Rattle.std.proofs.Common.{◌≡◌, List, ℕ, Ok, subst}
 use Rattle.pack_base.specs.Outside.{Files}
 use Rattle.pack_model.specs.Problem.{Parts}
-use Rattle.canpack_top.specs.Check.{problem_at}
+use Rattle.canpack_top.specs.Files.{problem_at}
 use Rattle.canpack_top.specs.Command.{Names}
 use Rattle.canpack_top.specs.Plan.{IsPlanned, IsPartPlanned, planned_text}
 use Rattle.canpack_top.specs.Text.{placed_cert}

@@ -1,12 +1,12 @@
 -- The words of a command.
-use Rattle.std.specs.Prelude.{◌&&◌, ◌==◌, ℕ, Bool, List, [], length, map, not, codes, Option, None, Some, if◌then◌else◌, option_map, slice_index_or, IsTrue, String}
+use Rattle.std.specs.Prelude.{◌&&◌, ◌==◌, ℕ, Bool, List, [], length, map, not, codes, Option, None, Some, if◌then◌else◌, option_map, slice_index_or, String}
 use Rattle.std.specs.String.{string_bytes}
 use Rattle.std.specs.declared.alloc.Global.{Global}
 use Rattle.std.specs.Str.{bytes_eq}
 use Rattle.csv_table.specs.Decimal.{decimal_of}
 use Rattle.canpack_top.specs.declared.command.Names.{Names as GivenNames}
-use Rattle.canpack_top.specs.declared.command.Command.{Command as GivenCommand}
-use Rattle.canpack_top.specs.declared.command.Command.TheVariants as given
+use Rattle.canpack_top.specs.declared.command.Command.{Command}
+use Rattle.canpack_top.specs.declared.command.Command.TheVariants as command
 
 -- The four files that the words name.
 pub record Names : Type 0 where
@@ -15,22 +15,12 @@ pub record Names : Type 0 where
   pub matrix : List ℕ
   pub cert : List ℕ
 
--- What the words ask for. `plan` has its number of branches.
-pub data Command : Type 0 where
-  check : Names → Command
-  plan : Names → ℕ → Command
-
 -- no name is empty, and no two are equal
 abbrev pub are_names : Names → Bool
 are_names n =
     not (length n.network == 0) && not (length n.signals == 0) && not (length n.matrix == 0) && not (length n.cert == 0)
     && not (bytes_eq n.network n.signals) && not (bytes_eq n.network n.matrix) && not (bytes_eq n.network n.cert)
     && not (bytes_eq n.signals n.matrix) && not (bytes_eq n.signals n.cert) && not (bytes_eq n.matrix n.cert)
-
--- the four words of the command are names
-abbrev pub AreNames : Command → Type 0
-AreNames (check names) = IsTrue (are_names names)
-AreNames (plan names branches) = IsTrue (are_names names)
 
 -- a word, by its place from 0
 abbrev pub word : List (String Global) → ℕ → List ℕ
@@ -43,15 +33,15 @@ names_in words = record { network = word words 1; signals = word words 2; matrix
 -- the command of six words: `check` with its four files, and one worker
 abbrev pub check_of : List (String Global) → Option Command
 check_of words =
-    if bytes_eq (word words 0) (codes "check") && are_names (names_in words) && bytes_eq (word words 5) (codes "1")
-    then Some (check (names_in words))
+    if bytes_eq (word words 0) (codes "check") && bytes_eq (word words 5) (codes "1") && are_names (names_in words)
+    then Some (command.CheckFiles 1)
     else None
 
 -- the command of seven words: `plan` with its four files, 1 to 1000000 branches, and one worker
 abbrev pub plan_of : List (String Global) → Option Command
 plan_of words =
-    if bytes_eq (word words 0) (codes "plan") && are_names (names_in words) && bytes_eq (word words 6) (codes "1")
-    then option_map (plan (names_in words)) (decimal_of 1 1000000 (word words 5))
+    if bytes_eq (word words 0) (codes "plan") && bytes_eq (word words 6) (codes "1") && are_names (names_in words)
+    then option_map (λ branches. command.PlanFiles branches 1) (decimal_of 1 1000000 (word words 5))
     else None
 
 -- the command of the words, where they are the line of one
@@ -61,8 +51,3 @@ command_of words = if length words == 6 then check_of words else if length words
 -- the names that the code holds
 abbrev pub names_of : GivenNames → Names
 names_of n = record { network = n.network.now; signals = n.signals.now; matrix = n.matrix.now; cert = n.cert.now }
-
--- the command that the code holds
-abbrev pub seen : GivenCommand → Command
-seen (given.Check names) = check (names_of names)
-seen (given.Plan names branches) = plan (names_of names) branches

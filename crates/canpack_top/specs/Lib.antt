@@ -1,9 +1,13 @@
 pub mod Command
-pub mod Ending
 pub mod Line
 pub mod Text
+pub mod Files
+pub mod Ending
+pub mod Reads
 pub mod Write
-pub mod Answer
+pub mod Meaning
+pub mod Verdict
 pub mod Check
 pub mod Plan
-pub mod Reads
+pub mod Commands
+pub mod Answer

@@ -2,10 +2,6 @@
 use Rattle.std.specs.Prelude.{ℕ, List, [], ◌∷◌, ◌++◌, codes, decimal, slice_index_or}
 use Rattle.input_text.specs.SignalsText.{signals_header}
 use Rattle.matrix_text.specs.MatrixText.{matrix_header}
-use Rattle.canpack_top.specs.declared.ending.Part.{Part}
-use Rattle.canpack_top.specs.declared.ending.Part.TheVariants as part
-use Rattle.canpack_top.specs.declared.ending.Verdict.{Verdict}
-use Rattle.canpack_top.specs.declared.ending.Verdict.TheVariants as verdict
 use Rattle.canpack_top.specs.declared.refusal.Role.{Role}
 use Rattle.canpack_top.specs.declared.refusal.Role.TheVariants as role
 use Rattle.canpack_top.specs.declared.refusal.Refusal.{Refusal}
@@ -33,21 +29,6 @@ column_name file column = slice_index_or (columns_of file) column []
 
 abbrev pub placed_line : List ℕ
 placed_line = line (codes "placed")
-
--- the load of a matrix whose frames pass, and the common period, both in ticks
-abbrev pub timed_line : ℕ → ℕ → List ℕ
-timed_line load hyper = codes "timed " ++ (decimal load ++ (codes "/" ++ (decimal hyper ++ codes "\n")))
-
--- the part of the acceptance rule that doesn't hold
-abbrev pub rejected_line : Part → List ℕ
-rejected_line part.Matrix = line (codes "rejected matrix")
-rejected_line part.Timing = line (codes "rejected timing")
-
--- what was found of texts that stand
-abbrev pub verdict_line : Verdict → List ℕ
-verdict_line verdict.Placed = placed_line
-verdict_line (verdict.Timed load hyper) = timed_line load hyper
-verdict_line (verdict.Rejected failed) = rejected_line failed
 
 -- which text is refused, and why
 abbrev pub refused_line : Refusal → List ℕ

@@ -1,5 +1,5 @@
--- What a call did to a folder of which it only reads.
-use Rattle.std.specs.Prelude.{◌≡◌, ◌⊎◌, ℕ, List}
+-- What a call did to a folder of which it only reads, and which counts rose.
+use Rattle.std.specs.Prelude.{◌≡◌, ◌⊎◌, ℕ, List, [], ◌∷◌}
 use Rattle.pack_base.specs.Counts.{Rose}
 use Rattle.pack_base.specs.Outside.{Files, Later}
 use Rattle.canpack_top.specs.Command.{Names}
@@ -9,14 +9,23 @@ pub record ReadsOnly {F : Type 0} (files : F → Files) (read_faults write_fault
   pub same : files new ≡ files old
   pub later : Later read_faults write_faults given old new
 
--- the count of read faults of a name rose
+-- the count of a name rose
 abbrev pub FaultAt : (List ℕ → ℕ) → (List ℕ → ℕ) → List ℕ → Type 0
 FaultAt before now name = Rose (before name) (now name)
 
--- that of NETWORK's or of SIGNALS' name rose
-abbrev pub ProblemFaults : Names → (List ℕ → ℕ) → (List ℕ → ℕ) → Type 0
-ProblemFaults names before now = FaultAt before now names.network ⊎ FaultAt before now names.signals
+-- the count of one of these names rose
+abbrev pub SomeRose : List (List ℕ) → (List ℕ → ℕ) → (List ℕ → ℕ) → Type 0
+SomeRose [] before now = ⊥
+SomeRose (name ∷ names) before now = FaultAt before now name ⊎ SomeRose names before now
 
--- that of one of the four names rose
-abbrev pub CheckFaults : Names → (List ℕ → ℕ) → (List ℕ → ℕ) → Type 0
-CheckFaults names before now = ProblemFaults names before now ⊎ FaultAt before now names.matrix ⊎ FaultAt before now names.cert
+-- the names of the two files of a problem
+abbrev pub problem_names : Names → List (List ℕ)
+problem_names names = names.network ∷ names.signals ∷ []
+
+-- the names of the four files of `check`
+abbrev pub check_names : Names → List (List ℕ)
+check_names names = names.network ∷ names.signals ∷ names.matrix ∷ names.cert ∷ []
+
+-- the names of the two files that a planned matrix and its certificate are written to
+abbrev pub written_names : Names → List (List ℕ)
+written_names names = names.matrix ∷ names.cert ∷ []

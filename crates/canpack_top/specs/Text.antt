@@ -13,6 +13,10 @@ use Rattle.input_text.specs.SignalsText as signals
 use Rattle.cert_text.specs.CertText.{CertRefusal, cert_of_text}
 use Rattle.cert_text.specs.CertText as cert
 use Rattle.cert_text.specs.Parts.{CertParts}
+use Rattle.pack_base.specs.declared.reading.ReadWhole.{ReadWhole}
+use Rattle.pack_base.specs.declared.reading.ReadWhole.TheVariants as whole
+use Rattle.canpack_top.specs.declared.ending.Stop.{Stop}
+use Rattle.canpack_top.specs.declared.ending.Stop.TheVariants as stop
 use Rattle.canpack_top.specs.declared.refusal.Role.{Role}
 use Rattle.canpack_top.specs.declared.refusal.Role.TheVariants as role
 use Rattle.canpack_top.specs.declared.refusal.Refusal.{Refusal}
@@ -50,6 +54,23 @@ problem_refused (fault.PduTooLarge id) = refusal.PduTooLarge id
 problem_refused fault.TooManyItems = refusal.TooManyItems
 problem_refused fault.PeriodsMixed = refusal.PeriodsMixed
 problem_refused fault.Memory = refusal.NoSignals
+
+-- why the problem of a network and signals stops
+abbrev pub problem_stop : ProblemFault → Stop
+problem_stop fault.NoSignals = stop.Refused refusal.NoSignals
+problem_stop fault.TooManySignals = stop.Refused refusal.TooManySignals
+problem_stop (fault.TwiceNamed row) = stop.Refused (refusal.TwiceNamed row)
+problem_stop (fault.PduSenders row) = stop.Refused (refusal.PduSenders row)
+problem_stop (fault.PduTooLarge id) = stop.Refused (refusal.PduTooLarge id)
+problem_stop fault.TooManyItems = stop.Refused refusal.TooManyItems
+problem_stop fault.PeriodsMixed = stop.Refused refusal.PeriodsMixed
+problem_stop fault.Memory = stop.Memory
+
+-- why the reading of a whole file stops
+abbrev pub whole_stop : ReadWhole → Role → Stop
+whole_stop whole.ReadFault file = stop.ReadFault
+whole_stop whole.TooLarge file = stop.Refused (refusal.TooLarge file)
+whole_stop whole.Memory file = stop.Memory
 
 -- the text, where it has at most so many bytes
 abbrev pub within : ℕ → Role → List ℕ → Result (List ℕ) Refusal

@@ -1,6 +1,5 @@
 -- What a command that writes two files did to a folder.
 use Rattle.std.specs.Prelude.{◌≡◌, ◌≢◌, ◌⊎◌, ℕ, List, take, Option, Some, IsSome}
-use Rattle.pack_base.specs.Counts.{Rose}
 use Rattle.pack_base.specs.Outside.{Files, file_at}
 
 -- the file is as before, or holds a front of this text
@@ -12,7 +11,8 @@ pub record Written (first second : List ℕ) (first_text second_text : List ℕ)
   pub told : IsSome before → IsSome now
   pub first_whole : IsSome before → file_at now first ≡ Some first_text
   pub second_whole : IsSome before → file_at now second ≡ Some second_text
-  pub others : IsSome before → (other : List ℕ) → other ≢ first → other ≢ second → file_at now other ≡ file_at before other
+  pub others : IsSome before → (other : List ℕ) → other ≢ first → other ≢ second
+      → file_at now other ≡ file_at before other
 
 -- each of the two files is as before or holds a front of its text, the second is touched only where the first is
 -- whole, and all others are as before
@@ -20,9 +20,7 @@ pub record PartWritten (first second : List ℕ) (first_text second_text : List 
   pub told : IsSome before → IsSome now
   pub first_front : IsSome before → HoldsFront first_text (file_at before first) (file_at now first)
   pub second_front : IsSome before → HoldsFront second_text (file_at before second) (file_at now second)
-  pub in_order : IsSome before → (file_at now second ≡ file_at before second) ⊎ (file_at now first ≡ Some first_text)
-  pub others : IsSome before → (other : List ℕ) → other ≢ first → other ≢ second → file_at now other ≡ file_at before other
-
--- the count of write faults of one of the two files rose
-abbrev pub WriteFaults : List ℕ → List ℕ → (List ℕ → ℕ) → (List ℕ → ℕ) → Type 0
-WriteFaults first second before now = Rose (before first) (now first) ⊎ Rose (before second) (now second)
+  pub in_order : IsSome before → (file_at now second ≡ file_at before second)
+      ⊎ (file_at now first ≡ Some first_text)
+  pub others : IsSome before → (other : List ℕ) → other ≢ first → other ≢ second
+      → file_at now other ≡ file_at before other

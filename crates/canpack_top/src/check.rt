@@ -1,73 +1,84 @@
-//! The checking of a certificate.
-ghost use Rattle.std.specs.Prelude.{IfOk, IsErrOf, IsSome};
-ghost use Rattle.cert_text.specs.Parts.{HasText};
-ghost use Rattle.matrix_text.specs.OnePlace.{OnePlace};
-ghost use Rattle.canpack_top.specs.Answer.{DoneLineHas, IsDone};
-ghost use Rattle.canpack_top.specs.Check.{
-  FramesPass,
-  HasLine,
-  HasOnePlace,
-  HasPassing,
-  IsAcceptance,
-  IsFoundOf,
-  IsLineOf,
-  IsVerdict,
-};
+//! `check`: the checking of a certificate.
+ghost use Rattle.std.specs.Prelude.{◌≡◌, Err, IfOk, IsErrOf, IsSome, OnErr};
+ghost use Rattle.canpack_top.specs.Check.{HasAll, IsJudgement, check_answer, check_meaning, check_status};
 ghost use Rattle.canpack_top.specs.Command.{names_of};
-ghost use Rattle.canpack_top.specs.Line.{verdict_line};
-ghost use Rattle.canpack_top.specs.Reads.{CheckFaults, ReadsOnly};
+ghost use Rattle.canpack_top.specs.Meaning.{Runs, seen};
+ghost use Rattle.canpack_top.specs.Reads.{ReadsOnly, SomeRose, check_names};
+ghost use Rattle.canpack_top.specs.Verdict.{IsShown};
 
 use crate::command::Names;
-use crate::ending::{Part, Stop, Verdict};
+use crate::ending::{Answer, Halt, Status, Stop};
 use crate::files::{cert_at, matrix_at};
 use crate::problem::read_problem;
-use cert_check::{CheckFault, Verdict as Shown, check_cert};
-use cert_text::Cert;
-use matrix_text::Matrix;
+use crate::stopping::answer_of;
+use crate::verdict::{Found, found_line, judge};
 use pack_base::Folder;
-use pack_model::{Memory, Problem};
 use std::alloc::Global;
 
-/// Judges a certificate of the kind `placed` or `timed`: what it shows of a problem's matrix, or the first part of the
-/// acceptance rule that doesn't hold.
-fn judge(alloc: Global, problem: &Problem, matrix: &Matrix, cert: &Cert) -> Result<Verdict, Memory>
-    requires { HasText cert.now.kind }
-    ensures found { IfOk result (λ found. IsFoundOf found (record { problem = problem.now; matrix = matrix.now; cert = cert.now })) }
-    ensures line { IfOk result (λ found. IsAcceptance found
-        → IsLineOf (verdict_line found) (record { problem = problem.now; matrix = matrix.now; cert = cert.now })) }
-    ensures one_place { IfOk result (λ found. IsAcceptance found → OnePlace problem.now matrix.now) }
-    ensures passes { IfOk result (λ found. IsAcceptance found
-        → FramesPass (record { problem = problem.now; matrix = matrix.now; cert = cert.now })) }
-{
-    match check_cert(alloc, problem, matrix, cert) {
-        Ok(Shown::Placed) => Ok(Verdict::Placed),
-        Ok(Shown::Timed { load }) => Ok(Verdict::Timed {
-            load,
-            hyper: problem.hyper(),
-        }),
-        Err(CheckFault::RejectedMatrix) => Ok(Verdict::Rejected(Part::Matrix)),
-        Err(CheckFault::RejectedTiming) => Ok(Verdict::Rejected(Part::Timing)),
-        Err(CheckFault::Memory) => Err(Memory),
-        // Certificates of other kinds have no text yet.
-        Ok(Shown::Between { .. } | Shown::Best { .. } | Shown::NoSolution)
-        | Err(CheckFault::RejectedTree) => unreachable!(),
-    }
+/// What was found of four texts.
+#[derive(Clone, Copy, Debug)]
+pub struct Judgement {
+    pub found: Found,
+    /// The common period of all signals, in ticks.
+    pub hyper: u64,
 }
 
 /// Reads the four files, and judges the matrix and the certificate.
 #[tactic(auto, using(crate::proofs::ReadTwice::reads_trans), unfolding(crate::specs::Check::texts_at))]
-pub fn check<F: Folder>(alloc: Global, folder: &mut F, names: Names<'_>) -> Result<Verdict, Stop>
-    ensures exact { IsSome (F.files folder.old) → IsVerdict result (names_of names.entry) (F.files folder.old) }
-    ensures line { IsSome (F.files folder.old) → DoneLineHas (λ line. HasLine line (names_of names.entry) (F.files folder.old)) result }
-    ensures one_place { IsSome (F.files folder.old) → IsDone result → HasOnePlace (names_of names.entry) (F.files folder.old) }
-    ensures passes { IsSome (F.files folder.old) → IsDone result → HasPassing (names_of names.entry) (F.files folder.old) }
+fn judgement_at<F: Folder>(
+    alloc: Global,
+    folder: &mut F,
+    names: Names<'_>,
+) -> Result<Judgement, Stop>
+    ensures exact { IsSome (F.files folder.old)
+        → IsJudgement result (names_of names.entry) (F.files folder.old) }
+    ensures holds { IsSome (F.files folder.old)
+        → IfOk result (λ given. IsShown given.found → HasAll (names_of names.entry) (F.files folder.old)) }
     ensures read_fault { IsErrOf result Stop.ReadFault
-        → CheckFaults (names_of names.entry) (F.read_faults folder.old) (F.read_faults folder.new) }
-    ensures reads { IsErrOf result Stop.WriteFault → ⊥ }
+        → SomeRose (check_names (names_of names.entry))
+            (F.read_faults folder.old) (F.read_faults folder.new) }
     ensures only { ReadsOnly F.files F.read_faults F.write_faults F.given folder.old folder.new }
 {
     let problem = read_problem(alloc, folder, names)?;
     let matrix = matrix_at(alloc, folder, names.matrix)?;
     let cert = cert_at(alloc, folder, names.cert)?;
-    Ok(judge(alloc, &problem, &matrix, &cert)?)
+    let found = judge(alloc, &problem, &matrix, &cert)?;
+    Ok(Judgement {
+        found,
+        hyper: problem.hyper(),
+    })
+}
+
+/// The status of what was found.
+fn status_of(found: Found) -> Status
+    ensures { result ≡ check_status found }
+{
+    match found {
+        Found::Shown(_) => Status::Done,
+        Found::Rejected(_) => Status::Rejected,
+    }
+}
+
+/// The answer with what was found.
+fn judged_answer(alloc: Global, given: Judgement) -> Result<Answer, Halt>
+    ensures ok { IfOk result (λ answer. seen answer ≡ check_answer given.hyper given.found) }
+    ensures err { OnErr result (result ≡ Err Halt.Memory) }
+{
+    let line = found_line(alloc, given.found, given.hyper)?;
+    Ok(Answer {
+        status: status_of(given.found),
+        line,
+    })
+}
+
+/// Answers what the four files say.
+#[tactic(none)]
+pub fn check<F: Folder>(alloc: Global, folder: &mut F, names: Names<'_>) -> Result<Answer, Halt>
+    ensures { Runs (check_meaning (names_of names.entry))
+        F.files F.read_faults F.write_faults F.given folder.old folder.new result }
+{
+    match judgement_at(alloc, folder, names) {
+        Ok(given) => judged_answer(alloc, given),
+        Err(stop) => answer_of(alloc, stop),
+    }
 }

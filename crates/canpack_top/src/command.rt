@@ -1,6 +1,6 @@
 //! The words of a command.
-ghost use Rattle.std.specs.Prelude.{◌≡◌, ◌≤◌, None, Some, MatchOption, IfSome, length, true, false};
-ghost use Rattle.canpack_top.specs.Command.{AreNames, are_names, check_of, command_of, names_in, names_of, plan_of, seen};
+ghost use Rattle.std.specs.Prelude.{◌≡◌, ◌≤◌, None, Some, IsSome, IsTrue, length, true, false};
+ghost use Rattle.canpack_top.specs.Command.{are_names, check_of, command_of, names_in, names_of, plan_of};
 
 use csv_table::decimal_in;
 
@@ -13,15 +13,16 @@ pub struct Names<'a> {
     pub cert: &'a str,
 }
 
-/// What the words ask for.
-#[derive(Clone, Copy, Debug)]
-pub enum Command<'a> {
-    /// Checks a certificate of a matrix.
-    Check(Names<'a>),
-    /// Plans a matrix within so many branches.
-    Plan(Names<'a>, u64),
+/// What the words ask for, beside the files that they name.
+#[derive(Clone, Copy, Debug, PartialEq, Eq)]
+pub enum Command {
+    /// Checks a certificate of a matrix, by so many workers: 1 so far.
+    CheckFiles { workers: u32 },
+    /// Plans a matrix within so many branches, 1 to 1000000, by so many workers: 1 so far.
+    PlanFiles { branches: u64, workers: u32 },
 }
 
+/// Whether no name is empty and no two are equal.
 fn are_names(names: Names<'_>) -> bool
     ensures { result ≡ are_names (names_of names.entry) }
 {
@@ -43,55 +44,62 @@ fn are_names(names: Names<'_>) -> bool
         && matrix != cert
 }
 
-/// The four files in the second to the fifth word, where they are names.
-fn names_in(words: &[String]) -> Option<Names<'_>>
+/// The four files in the second to the fifth word.
+pub fn names_in(words: &[String]) -> Names<'_>
     requires { 6 ≤ length words.now }
-    ensures { MatchOption result (are_names (names_in words.now) ≡ false)
-        (λ names. (names_of names ≡ names_in words.now) × (are_names (names_in words.now) ≡ true)) }
+    ensures { names_of result ≡ names_in words.now }
 {
-    let names = Names {
+    Names {
         network: words[1].as_str(),
         signals: words[2].as_str(),
         matrix: words[3].as_str(),
         cert: words[4].as_str(),
-    };
-    if are_names(names) { Some(names) } else { None }
+    }
 }
 
-fn check_of(words: &[String]) -> Option<Command<'_>>
+/// Whether the second to the fifth word name four files.
+fn has_names(words: &[String]) -> bool
+    requires { 6 ≤ length words.now }
+    ensures { result ≡ are_names (names_in words.now) }
+{
+    are_names(names_in(words))
+}
+
+fn check_of(words: &[String]) -> Option<Command>
     requires { length words.now ≡ 6 }
-    ensures { MatchOption result (check_of words.now ≡ None) (λ command. (check_of words.now ≡ Some (seen command)) × AreNames (seen command)) }
+    ensures exact { result ≡ check_of words.now }
+    ensures names { IsSome result → IsTrue (are_names (names_in words.now)) }
 {
-    if words[0].as_str() != "check" || words[5].as_str() != "1" {
-        return None;
-    }
-    match names_in(words) {
-        Some(names) => Some(Command::Check(names)),
-        None => None,
+    if words[0].as_str() == "check" && words[5].as_str() == "1" && has_names(words) {
+        Some(Command::CheckFiles { workers: 1 })
+    } else {
+        None
     }
 }
 
-fn plan_of(words: &[String]) -> Option<Command<'_>>
+fn plan_of(words: &[String]) -> Option<Command>
     requires { length words.now ≡ 7 }
-    ensures { MatchOption result (plan_of words.now ≡ None) (λ command. (plan_of words.now ≡ Some (seen command)) × AreNames (seen command)) }
+    ensures exact { result ≡ plan_of words.now }
+    ensures names { IsSome result → IsTrue (are_names (names_in words.now)) }
 {
-    if words[0].as_str() != "plan" || words[6].as_str() != "1" {
+    if words[0].as_str() != "plan" || words[6].as_str() != "1" || !has_names(words) {
         return None;
     }
-    let Some(names) = names_in(words) else {
-        return None;
-    };
     match decimal_in(words[5].as_bytes(), 1, 1_000_000) {
-        Some(branches) => Some(Command::Plan(names, branches)),
+        Some(branches) => Some(Command::PlanFiles {
+            branches,
+            workers: 1,
+        }),
         None => None,
     }
 }
 
 /// The command of the words that follow the program's name, or `None` where they are the line of no command that
 /// is built.
-pub fn command_of(words: &[String]) -> Option<Command<'_>>
-    ensures exact { MatchOption result (command_of words.now ≡ None) (λ command. command_of words.now ≡ Some (seen command)) }
-    ensures names { IfSome result (λ command. AreNames (seen command)) }
+pub fn command_of(words: &[String]) -> Option<Command>
+    ensures exact { result ≡ command_of words.now }
+    ensures count { IsSome result → 6 ≤ length words.now }
+    ensures names { IsSome result → IsTrue (are_names (names_in words.now)) }
 {
     match words.len() {
         6 => check_of(words),

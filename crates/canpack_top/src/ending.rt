@@ -3,38 +3,67 @@
 use crate::refusal::Refusal;
 use pack_model::Memory;
 
-/// A part of the acceptance rule.
+/// A status that says a line.
 #[derive(Clone, Copy, Debug, PartialEq, Eq)]
-pub enum Part {
-    /// The matrix is placed.
-    Matrix,
-    /// Each frame is shown to meet its deadline.
-    Timing,
+pub enum Status {
+    /// Done, or accepted.
+    Done,
+    /// A text is refused.
+    Refused,
+    /// The acceptance rule doesn't hold.
+    Rejected,
 }
 
-/// What `check` finds of texts that stand.
-#[derive(Clone, Copy, Debug, PartialEq, Eq)]
-pub enum Verdict {
-    /// The matrix is placed.
-    Placed,
-    /// The matrix is placed, and each frame is shown to pass the written test.
-    Timed {
-        /// The matrix's load, in ticks a common period.
-        load: u128,
-        /// The common period of all signals, in ticks.
-        hyper: u64,
-    },
-    /// The first part of the acceptance rule that doesn't hold.
-    Rejected(Part),
+impl Status {
+    ghost use Rattle.std.specs.Prelude.{◌≡◌};
+    ghost use Rattle.canpack_top.specs.Ending.{number_of};
+
+    /// Its number: 0, 4 or 5.
+    pub fn number(self) -> u8
+        ensures { result ≡ number_of self }
+    {
+        match self {
+            Status::Done => 0,
+            Status::Refused => 4,
+            Status::Rejected => 5,
+        }
+    }
 }
 
-/// Why a command stops before its verdict.
+/// What a command answers: a status, and the line that is said.
+#[derive(Debug, Drop)]
+pub struct Answer {
+    pub status: Status,
+    pub line: Vec<u8>,
+}
+
+/// Why a command halts with no answer.
 #[derive(Clone, Copy, Debug, PartialEq, Eq)]
-pub enum Stop {
+pub enum Halt {
     /// A read failed, and the folder's count of read faults rose.
     ReadFault,
     /// A creation or an append failed, and the folder's count of write faults rose.
     WriteFault,
+    /// Want of memory.
+    Memory,
+}
+
+impl From<Memory> for Halt {
+    ghost use Rattle.std.specs.Prelude.{◌≡◌};
+    ghost use Rattle.canpack_top.specs.declared.ending.Halt.TheVariants as halt;
+
+    ghost from_gives = { λ _ e. e ≡ halt.Memory };
+
+    fn from(_e: Memory) -> Halt {
+        Halt::Memory
+    }
+}
+
+/// Why the reading of texts stops.
+#[derive(Clone, Copy, Debug, PartialEq, Eq)]
+pub enum Stop {
+    /// A read failed, and the folder's count of read faults rose.
+    ReadFault,
     /// A text was refused: this is the first refusal.
     Refused(Refusal),
     /// Want of memory.

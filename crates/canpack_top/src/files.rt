@@ -2,8 +2,7 @@
 ghost use Rattle.std.specs.Prelude.{◌≡◌, IfOk, IsSome, IsErrOf, All};
 ghost use Rattle.pack_model.specs.Network.{NetworkStands};
 ghost use Rattle.pack_model.specs.Signal.{SignalStands};
-ghost use Rattle.cert_text.specs.Parts.{HasText};
-ghost use Rattle.canpack_top.specs.Check.{cert_at, matrix_at, network_at, signals_at};
+ghost use Rattle.canpack_top.specs.Files.{cert_at, matrix_at, network_at, signals_at};
 ghost use Rattle.canpack_top.specs.Ending.{Gives};
 ghost use Rattle.canpack_top.specs.Reads.{FaultAt, ReadsOnly};
 
@@ -24,13 +23,13 @@ const TEXT_LIMIT: u64 = 16_777_216;
 const SIZE_LIMIT: u64 = (1 << 63) - 1;
 
 /// The network of a file.
-#[tactic(auto, unfolding(crate::specs::Check::network_at))]
+#[tactic(auto, unfolding(crate::specs::Files::network_at))]
 pub fn network_at<F: Folder>(alloc: Global, folder: &mut F, name: &str) -> Result<Network, Stop>
-    ensures exact { IsSome (F.files folder.old) → Gives (λ network. network) result (network_at (F.files folder.old) name.now) }
+    ensures exact { IsSome (F.files folder.old)
+        → Gives (λ network. network) result (network_at (F.files folder.old) name.now) }
     ensures stands { IfOk result NetworkStands }
     ensures read_fault { IsErrOf result Stop.ReadFault
         → FaultAt (F.read_faults folder.old) (F.read_faults folder.new) name.now }
-    ensures reads { IsErrOf result Stop.WriteFault → ⊥ }
     ensures only { ReadsOnly F.files F.read_faults F.write_faults F.given folder.old folder.new }
 {
     let text = read_file(alloc, folder, name, TEXT_LIMIT, Role::Network)?;
@@ -38,13 +37,13 @@ pub fn network_at<F: Folder>(alloc: Global, folder: &mut F, name: &str) -> Resul
 }
 
 /// The signals of a file.
-#[tactic(auto, unfolding(crate::specs::Check::signals_at))]
+#[tactic(auto, unfolding(crate::specs::Files::signals_at))]
 pub fn signals_at<F: Folder>(alloc: Global, folder: &mut F, name: &str) -> Result<Vec<Signal>, Stop>
-    ensures exact { IsSome (F.files folder.old) → Gives (λ signals. signals.items) result (signals_at (F.files folder.old) name.now) }
+    ensures exact { IsSome (F.files folder.old)
+        → Gives (λ signals. signals.items) result (signals_at (F.files folder.old) name.now) }
     ensures stand { IfOk result (λ signals. All SignalStands signals.items) }
     ensures read_fault { IsErrOf result Stop.ReadFault
         → FaultAt (F.read_faults folder.old) (F.read_faults folder.new) name.now }
-    ensures reads { IsErrOf result Stop.WriteFault → ⊥ }
     ensures only { ReadsOnly F.files F.read_faults F.write_faults F.given folder.old folder.new }
 {
     let text = read_file(alloc, folder, name, TEXT_LIMIT, Role::Signals)?;
@@ -52,26 +51,25 @@ pub fn signals_at<F: Folder>(alloc: Global, folder: &mut F, name: &str) -> Resul
 }
 
 /// The matrix of a file.
-#[tactic(auto, unfolding(crate::specs::Check::matrix_at))]
+#[tactic(auto, unfolding(crate::specs::Files::matrix_at))]
 pub fn matrix_at<F: Folder>(alloc: Global, folder: &mut F, name: &str) -> Result<Matrix, Stop>
-    ensures exact { IsSome (F.files folder.old) → Gives (λ matrix. matrix) result (matrix_at (F.files folder.old) name.now) }
+    ensures exact { IsSome (F.files folder.old)
+        → Gives (λ matrix. matrix) result (matrix_at (F.files folder.old) name.now) }
     ensures read_fault { IsErrOf result Stop.ReadFault
         → FaultAt (F.read_faults folder.old) (F.read_faults folder.new) name.now }
-    ensures reads { IsErrOf result Stop.WriteFault → ⊥ }
     ensures only { ReadsOnly F.files F.read_faults F.write_faults F.given folder.old folder.new }
 {
     let text = read_file(alloc, folder, name, SIZE_LIMIT, Role::Matrix)?;
     matrix_in(alloc, &text)
 }
 
-/// The certificate of a file, which is of the kind `placed` or `timed`.
-#[tactic(auto, unfolding(crate::specs::Check::cert_at))]
+/// The certificate of a file.
+#[tactic(auto, unfolding(crate::specs::Files::cert_at))]
 pub fn cert_at<F: Folder>(alloc: Global, folder: &mut F, name: &str) -> Result<Cert, Stop>
-    ensures exact { IsSome (F.files folder.old) → Gives (λ cert. cert) result (cert_at (F.files folder.old) name.now) }
-    ensures kind { IfOk result (λ cert. HasText cert.kind) }
+    ensures exact { IsSome (F.files folder.old)
+        → Gives (λ cert. cert) result (cert_at (F.files folder.old) name.now) }
     ensures read_fault { IsErrOf result Stop.ReadFault
         → FaultAt (F.read_faults folder.old) (F.read_faults folder.new) name.now }
-    ensures reads { IsErrOf result Stop.WriteFault → ⊥ }
     ensures only { ReadsOnly F.files F.read_faults F.write_faults F.given folder.old folder.new }
 {
     let text = read_file(alloc, folder, name, SIZE_LIMIT, Role::Cert)?;

@@ -15,10 +15,12 @@ mod reading;
 mod refusal;
 mod run;
 mod steady;
+mod stopping;
 mod texts;
 mod top;
+mod verdict;
 mod writing;
 
-pub use command::{Command, Names, command_of};
+pub use command::{Command, command_of};
 pub use steady::canpack_steady;
 pub use top::canpack;

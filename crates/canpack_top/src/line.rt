@@ -1,9 +1,8 @@
 //! The lines that the program says.
 ghost use Rattle.std.specs.Prelude.{◌≡◌, IfOk, string_bytes};
 ghost use Rattle.canpack_top.specs.declared.refusal.Role.TheVariants as role;
-ghost use Rattle.canpack_top.specs.Line.{column_name, placed_line, refused_line, rejected_line, role_name, timed_line, usage_line};
+ghost use Rattle.canpack_top.specs.Line.{column_name, placed_line, refused_line, role_name, usage_line};
 
-use crate::ending::Part;
 use crate::refusal::{Refusal, Role};
 use pack_model::Memory;
 use std::alloc::{AllocError, Global};
@@ -99,34 +98,11 @@ pub fn refused_line(alloc: Global, refusal: Refusal) -> Result<Vec<u8>, Memory>
     Ok(refused_text(alloc, refusal)?.into_bytes())
 }
 
-fn timed_text(alloc: Global, load: u128, hyper: u64) -> Result<String, AllocError>
-    ensures { IfOk result (λ text. string_bytes text ≡ timed_line load hyper) }
+/// The line of a matrix that is placed.
+pub fn placed_line(alloc: Global) -> Result<Vec<u8>, Memory>
+    ensures { IfOk result (λ line. line.items ≡ placed_line) }
 {
-    format!(in alloc; "timed {load}/{hyper}\n")
-}
-
-/// A certificate of kind `timed` was accepted: the load of its matrix and the common period, in ticks.
-pub fn timed_line(alloc: Global, load: u128, hyper: u64) -> Result<Vec<u8>, Memory>
-    ensures { IfOk result (λ line. line.items ≡ timed_line load hyper) }
-{
-    Ok(timed_text(alloc, load, hyper)?.into_bytes())
-}
-
-/// A certificate of kind `placed` was accepted: the matrix is placed.
-pub fn placed_line() -> &'static [u8]
-    ensures { result.now ≡ placed_line }
-{
-    b"placed\n"
-}
-
-/// This part of the acceptance rule is the first that doesn't hold.
-pub fn rejected_line(part: Part) -> &'static [u8]
-    ensures { result.now ≡ rejected_line part }
-{
-    match part {
-        Part::Matrix => b"rejected matrix\n",
-        Part::Timing => b"rejected timing\n",
-    }
+    Ok(Vec::from_slice(alloc, b"placed\n")?)
 }
 
 /// How the program is used.

@@ -1,16 +1,20 @@
 //! The top call over an outside that never fails.
-ghost use Rattle.std.specs.Prelude.{◌≡◌, ◌≢◌, ◌⊎◌, [], Some, IsNone};
+ghost use Rattle.std.specs.Prelude.{◌≡◌, ◌≢◌, ◌⊎◌, IsNone, IsOk};
 ghost use Rattle.pack_base.specs.SteadyFolder.{files_of};
-ghost use Rattle.canpack_top.specs.Answer.{Accepted, IsCheck, IsRefused, IsRejected, OfCommand, PassingEach};
-ghost use Rattle.canpack_top.specs.Command.{command_of};
+ghost use Rattle.canpack_top.specs.Answer.{IsRefused};
+ghost use Rattle.canpack_top.specs.Check.{Accepts, HasOnePlace, HasPassing, texts_at};
+ghost use Rattle.canpack_top.specs.Command.{command_of, names_in};
+ghost use Rattle.canpack_top.specs.Commands.{IsCheck, IsPlan, OfCommand};
+ghost use Rattle.canpack_top.specs.Files.{problem_at};
+ghost use Rattle.canpack_top.specs.Plan.{IsPlanned};
 
 use crate::top::canpack;
 use pack_base::{Gate, NullSink, SteadyFolder};
 use std::alloc::Global;
 use std::thread::Threads;
 
-/// `canpack` over files whose reads never fail and a sink that takes everything: the words and the files alone decide
-/// the status, want of memory aside.
+/// `canpack` over files whose reads never fail and a sink that takes everything: the words and the files alone
+/// decide the status, want of memory aside, and for `plan` a write fault.
 pub fn canpack_steady<R: Threads, G: Gate + Sync>(
     rt: &R,
     alloc: Global,
@@ -19,13 +23,24 @@ pub fn canpack_steady<R: Threads, G: Gate + Sync>(
     gate: &G,
 ) -> u8
     ensures no_fault { (result ≢ 2) × (result ≢ 7) }
-    ensures no_write_fault { OfCommand words.now IsCheck → result ≢ 3 }
     ensures usage { IsNone (command_of words.now) → result ≡ 1 }
-    ensures accepts { OfCommand words.now IsCheck → OfCommand words.now (Accepted (files_of folder.old)) → (result ≡ 0) ⊎ (result ≡ 6) }
-    ensures rejects { OfCommand words.now IsCheck → OfCommand words.now (IsRejected (files_of folder.old)) → (result ≡ 5) ⊎ (result ≡ 6) }
-    ensures refuses { OfCommand words.now IsCheck → OfCommand words.now (IsRefused (files_of folder.old)) → (result ≡ 4) ⊎ (result ≡ 6) }
-    ensures passes { result ≡ 0 → OfCommand words.now (PassingEach (files_of folder.old)) }
-    ensures files { OfCommand words.now IsCheck → files_of folder.new ≡ files_of folder.old }
+    ensures refuses { OfCommand words.now (IsRefused (files_of folder.old)) → (result ≡ 4) ⊎ (result ≡ 6) }
+
+    ensures no_write_fault { IsCheck words.now → result ≢ 3 }
+    ensures accepts { IsCheck words.now → Accepts (names_in words.now) (files_of folder.old)
+        → (result ≡ 0) ⊎ (result ≡ 6) }
+    ensures rejects { IsCheck words.now → IsOk (texts_at (names_in words.now) (files_of folder.old))
+        → ¬ Accepts (names_in words.now) (files_of folder.old) → (result ≡ 5) ⊎ (result ≡ 6) }
+    ensures one_place { result ≡ 0 → IsCheck words.now
+        → HasOnePlace (names_in words.now) (files_of folder.old) }
+    ensures passes { result ≡ 0 → IsCheck words.now → HasPassing (names_in words.now) (files_of folder.old) }
+    ensures files { IsCheck words.now → files_of folder.new ≡ files_of folder.old }
+
+    // `plan` says that it is done only where both files are written.
+    ensures planned { result ≡ 0 → IsPlan words.now
+        → IsPlanned (names_in words.now) (files_of folder.old) (files_of folder.new) }
+    ensures plans { IsPlan words.now → IsOk (problem_at (names_in words.now) (files_of folder.old))
+        → (result ≡ 0) ⊎ (result ≡ 3) ⊎ (result ≡ 6) }
 {
     canpack(rt, alloc, words, folder, &mut NullSink, gate)
 }

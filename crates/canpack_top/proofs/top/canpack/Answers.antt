@@ -1,31 +1,84 @@
-use Rattle.std.proofs.Common.{ℕ, List, arith, refl}
-use Rattle.std.proofs.lemmas.Grind.{common_steps}
-use Rattle.canpack_top.specs.Answer.{usage, done, rejected, refused}
-use Rattle.canpack_top.specs.Line.{placed_line, timed_line, rejected_line, usage_line}
-use Rattle.canpack_top.proofs.Said.{says_part}
+use Rattle.canpack_top.proofs.CommandLaws.{
+  Called, check_accepted, check_accepts, check_idle, check_one_place, check_passes, check_rejected, check_rejects, plan_accepted, plan_done,
+  plan_plans, refused_text, text_refused}
 use Rattle.canpack_top.proofs.top.canpack.Goals as goal
 
-pub returns-in_default-clause-part_said : goal.returns-in_default-clause-part_said
-returns-in_default-clause-part_said g c = λ failed.
-    says_part _ _ _ _ _ _ usage_line c.usage_line.ensures (usage (grind (arith, common_steps)) (grind (arith, common_steps))) (c.say.ensures.part failed)
+pub returns-clause-refused : goal.returns-clause-refused
+returns-clause-refused g c =
+    let called : Called c.args.words.now (g.F.Folder.files c.args.folder.now) (g.F.Folder.files c.status_of.new.folder)
+    (g.O.Sink.said c.args.out.now) (g.O.Sink.said c.status_of.new.out) c.status_of.result =
+    record { statuses = c.status_of.ensures.statuses; usage = λ one. (c.status_of.ensures.usage one).0; answered = c.status_of.ensures.answered } in
+    refused_text called
 
-pub returns-in-Ok-Placed-clause-part_said : goal.returns-in-Ok-Placed-clause-part_said
-returns-in-Ok-Placed-clause-part_said g c = λ failed.
-    says_part _ _ _ _ _ _ placed_line c.placed_line.ensures
-    (done placed_line (grind (arith, common_steps)) (λ told. grind (arith, common_steps)) (λ told. grind (arith, common_steps)) (λ told. grind (arith, common_steps)))
-    (c.say-in-Ok-Placed.ensures.part failed)
+pub returns-clause-refuses : goal.returns-clause-refuses
+returns-clause-refuses g c =
+    let called : Called c.args.words.now (g.F.Folder.files c.args.folder.now) (g.F.Folder.files c.status_of.new.folder)
+    (g.O.Sink.said c.args.out.now) (g.O.Sink.said c.status_of.new.out) c.status_of.result =
+    record { statuses = c.status_of.ensures.statuses; usage = λ one. (c.status_of.ensures.usage one).0; answered = c.status_of.ensures.answered } in
+    text_refused called
 
-pub returns-in-Ok-Timed-clause-part_said : goal.returns-in-Ok-Timed-clause-part_said
-returns-in-Ok-Timed-clause-part_said g c = λ failed.
-    let line : List ℕ = timed_line c.in-Ok-Timed.load c.in-Ok-Timed.hyper in
-    says_part _ _ _ _ _ line line refl
-    (done line (grind (arith, common_steps)) (λ told. grind (arith, common_steps)) (λ told. grind (arith, common_steps)) (λ told. grind (arith, common_steps)))
-    (c.say_timed.ensures.part failed)
+pub returns-clause-accepted : goal.returns-clause-accepted
+returns-clause-accepted g c =
+    let called : Called c.args.words.now (g.F.Folder.files c.args.folder.now) (g.F.Folder.files c.status_of.new.folder)
+    (g.O.Sink.said c.args.out.now) (g.O.Sink.said c.status_of.new.out) c.status_of.result =
+    record { statuses = c.status_of.ensures.statuses; usage = λ one. (c.status_of.ensures.usage one).0; answered = c.status_of.ensures.answered } in
+    check_accepted called
 
-pub returns-in-Ok-Rejected-clause-part_said : goal.returns-in-Ok-Rejected-clause-part_said
-returns-in-Ok-Rejected-clause-part_said g c = λ failed.
-    says_part _ _ _ _ _ _ (rejected_line c.in-Ok-Rejected.part) c.rejected_line.ensures (rejected c.in-Ok-Rejected.part (λ told. grind (arith, common_steps)) (grind (arith, common_steps))) (c.say-in-Ok-Rejected.ensures.part failed)
+pub returns-clause-one_place : goal.returns-clause-one_place
+returns-clause-one_place g c =
+    let called : Called c.args.words.now (g.F.Folder.files c.args.folder.now) (g.F.Folder.files c.status_of.new.folder)
+    (g.O.Sink.said c.args.out.now) (g.O.Sink.said c.status_of.new.out) c.status_of.result =
+    record { statuses = c.status_of.ensures.statuses; usage = λ one. (c.status_of.ensures.usage one).0; answered = c.status_of.ensures.answered } in
+    check_one_place called
 
-pub returns-in-Err-Refused-clause-part_said : goal.returns-in-Err-Refused-clause-part_said
-returns-in-Err-Refused-clause-part_said g c = λ failed.
-    says_part _ _ _ _ _ _ _ refl (refused _ (λ told. grind (arith, common_steps)) (grind (arith, common_steps))) (c.say_refused.ensures.part failed)
+pub returns-clause-passes : goal.returns-clause-passes
+returns-clause-passes g c =
+    let called : Called c.args.words.now (g.F.Folder.files c.args.folder.now) (g.F.Folder.files c.status_of.new.folder)
+    (g.O.Sink.said c.args.out.now) (g.O.Sink.said c.status_of.new.out) c.status_of.result =
+    record { statuses = c.status_of.ensures.statuses; usage = λ one. (c.status_of.ensures.usage one).0; answered = c.status_of.ensures.answered } in
+    check_passes called
+
+pub returns-clause-rejected : goal.returns-clause-rejected
+returns-clause-rejected g c =
+    let called : Called c.args.words.now (g.F.Folder.files c.args.folder.now) (g.F.Folder.files c.status_of.new.folder)
+    (g.O.Sink.said c.args.out.now) (g.O.Sink.said c.status_of.new.out) c.status_of.result =
+    record { statuses = c.status_of.ensures.statuses; usage = λ one. (c.status_of.ensures.usage one).0; answered = c.status_of.ensures.answered } in
+    check_rejected called
+
+pub returns-clause-accepts : goal.returns-clause-accepts
+returns-clause-accepts g c =
+    let called : Called c.args.words.now (g.F.Folder.files c.args.folder.now) (g.F.Folder.files c.status_of.new.folder)
+    (g.O.Sink.said c.args.out.now) (g.O.Sink.said c.status_of.new.out) c.status_of.result =
+    record { statuses = c.status_of.ensures.statuses; usage = λ one. (c.status_of.ensures.usage one).0; answered = c.status_of.ensures.answered } in
+    check_accepts called
+
+pub returns-clause-rejects : goal.returns-clause-rejects
+returns-clause-rejects g c =
+    let called : Called c.args.words.now (g.F.Folder.files c.args.folder.now) (g.F.Folder.files c.status_of.new.folder)
+    (g.O.Sink.said c.args.out.now) (g.O.Sink.said c.status_of.new.out) c.status_of.result =
+    record { statuses = c.status_of.ensures.statuses; usage = λ one. (c.status_of.ensures.usage one).0; answered = c.status_of.ensures.answered } in
+    check_rejects called
+
+pub returns-clause-planned : goal.returns-clause-planned
+returns-clause-planned g c =
+    let called : Called c.args.words.now (g.F.Folder.files c.args.folder.now) (g.F.Folder.files c.status_of.new.folder)
+    (g.O.Sink.said c.args.out.now) (g.O.Sink.said c.status_of.new.out) c.status_of.result =
+    record { statuses = c.status_of.ensures.statuses; usage = λ one. (c.status_of.ensures.usage one).0; answered = c.status_of.ensures.answered } in
+    plan_done called
+
+pub returns-clause-accepted_after : goal.returns-clause-accepted_after
+returns-clause-accepted_after g c =
+    let called : Called c.args.words.now (g.F.Folder.files c.args.folder.now) (g.F.Folder.files c.status_of.new.folder)
+    (g.O.Sink.said c.args.out.now) (g.O.Sink.said c.status_of.new.out) c.status_of.result =
+    record { statuses = c.status_of.ensures.statuses; usage = λ one. (c.status_of.ensures.usage one).0; answered = c.status_of.ensures.answered } in
+    plan_accepted called
+
+pub returns-clause-plans : goal.returns-clause-plans
+returns-clause-plans g c =
+    let called : Called c.args.words.now (g.F.Folder.files c.args.folder.now) (g.F.Folder.files c.status_of.new.folder)
+    (g.O.Sink.said c.args.out.now) (g.O.Sink.said c.status_of.new.out) c.status_of.result =
+    record { statuses = c.status_of.ensures.statuses; usage = λ one. (c.status_of.ensures.usage one).0; answered = c.status_of.ensures.answered } in
+    plan_plans called
+
+pub returns-clause-check : goal.returns-clause-check
+returns-clause-check g c = λ check. c.status_of.ensures.idle (check_idle c.args.words.now check)

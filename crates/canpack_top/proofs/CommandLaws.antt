@@ -1,0 +1,253 @@
+-- What the answer of a command says where the command is known.
+use Rattle.std.proofs.Common.{◌≡◌, ◌≢◌, ◌∙◌, ◌⊎◌, ℕ, List, Option, None, Some, Result, Ok, Err, IsNone, IsOk, IsOkAnd, IsSome, IsSomeAnd, String, ap, arith, inl, inr, option_map, refl, subst, sym, is_some, true≢false, []}
+use Rattle.std.specs.Result.{result_err}
+use Rattle.std.specs.declared.alloc.Global.{Global}
+use Rattle.pack_base.specs.Outside.{Files}
+use Rattle.cert_text.specs.declared.parts.Kind.TheVariants.{KindPlaced, KindTimed}
+use Rattle.bandwidth_bound.specs.declared.verdict.Verdict.{Verdict}
+use Rattle.bandwidth_bound.specs.declared.verdict.Verdict.TheVariants as verdict
+use Rattle.canpack_top.specs.declared.command.Command.{Command}
+use Rattle.canpack_top.specs.declared.ending.Status.{Status}
+use Rattle.canpack_top.specs.declared.ending.Status.TheVariants as status
+use Rattle.canpack_top.specs.declared.refusal.Refusal.{Refusal}
+use Rattle.bandwidth_bound.specs.declared.verdict.Part.{Part}
+use Rattle.bandwidth_bound.specs.declared.verdict.Part.TheVariants as part
+use Rattle.canpack_top.specs.declared.verdict.Found.{Found}
+use Rattle.canpack_top.specs.declared.verdict.Found.TheVariants as found
+use Rattle.canpack_top.specs.Answer.{Answered, IsAnswer, IsAnswered, IsExcused, IsRefused}
+use Rattle.canpack_top.specs.Check.{Accepts, HasAll, HasOnePlace, HasPassing, Rejects, check_answer, check_meaning, texts_at}
+use Rattle.canpack_top.specs.Command.{command_of, names_in}
+use Rattle.canpack_top.specs.Commands.{IsCheck, IsPlan, OfCommand, meaning_of}
+use Rattle.canpack_top.specs.Ending.{number_of}
+use Rattle.canpack_top.specs.Files.{problem_at}
+use Rattle.canpack_top.specs.Line.{refused_line}
+use Rattle.canpack_top.specs.Meaning.{Answer, Ends, Finishes, Meaning}
+use Rattle.canpack_top.specs.Plan.{IsPlanned, plan_meaning}
+use Rattle.canpack_top.specs.Verdict.{Finds, IsAccepted, IsRejected}
+use Rattle.bandwidth_bound.specs.Rule.{Judged}
+use Rattle.bandwidth_bound.specs.Follows.{Holds}
+use Rattle.canpack_top.proofs.Runs.{ok_and}
+
+-- a fact of the command that the words are
+pub of_words : (words : List (String Global)) (given : Command) (P : Meaning → Type 0) → command_of words ≡ Some given
+    → OfCommand words P → P (meaning_of given words)
+of_words words given P is holds = subst (λ o. IsSomeAnd o (λ c. P (meaning_of c words))) is holds
+
+-- the number of a status tells it
+done_number : (given : Status) → 0 ≡ number_of given → given ≡ status.Done
+done_number status.Done is = refl
+done_number status.Refused is = absurd (omega arith)
+done_number status.Rejected is = absurd (omega arith)
+
+rejected_number : (given : Status) → 5 ≡ number_of given → given ≡ status.Rejected
+rejected_number status.Done is = absurd (omega arith)
+rejected_number status.Refused is = absurd (omega arith)
+rejected_number status.Rejected is = refl
+
+refused_number : (given : Status) → 4 ≡ number_of given → given ≡ status.Refused
+refused_number status.Done is = absurd (omega arith)
+refused_number status.Refused is = refl
+refused_number status.Rejected is = absurd (omega arith)
+
+-- an answer that refuses no text is the command's own
+own : (meaning : Meaning) (before now : Files) (answer : Answer) → answer.status ≢ status.Refused
+    → Ends meaning before now answer → Finishes meaning before now answer
+own meaning before now answer other (inl finishes) = finishes
+own meaning before now answer other (inr refuses) = absurd (other (ap (λ a. a.status) refuses.is))
+
+-- a refusal says that a text is refused
+refusing : (meaning : Meaning) (before now : Files) (answer : Answer) → answer.status ≡ status.Refused → IsSome before
+    → Ends meaning before now answer → IsRefused before meaning
+refusing meaning before now answer is told (inl finishes) = absurd (finishes.not_refused is)
+refusing meaning before now answer is told (inr refuses) = ap is_some (refuses.first told)
+
+-- the acceptance rule doesn't both hold and fail
+exclusive : (judged : Judged) (shown : Verdict) (failed : Part) → Finds (found.Shown shown) judged → Finds (found.Rejected failed) judged → ⊥
+exclusive judged shown part.Matrix holds fails = fails holds.rule.matrix
+exclusive judged shown part.Timing holds fails = fails.1 holds.rule.timing
+exclusive judged shown part.Tree holds fails = fails.2 holds.rule.tree
+
+-- an answer with status 0 is that of a verdict, and one with status 5 that of a part that fails
+accepted_of : (answer : Answer) (judged : Judged) (what : Found) → answer.status ≡ status.Done → Finds what judged
+    → answer ≡ check_answer judged.problem.hyper what → IsAccepted judged
+accepted_of answer judged (found.Shown shown) done finds is = (shown, finds)
+accepted_of answer judged (found.Rejected failed) done finds is = let h : status.Rejected ≡ status.Done = sym (ap (λ a. a.status) is) ∙ done in cc
+
+rejected_of : (answer : Answer) (judged : Judged) (what : Found) → answer.status ≡ status.Rejected → Finds what judged
+    → answer ≡ check_answer judged.problem.hyper what → IsRejected judged
+rejected_of answer judged (found.Shown shown) done finds is = let h : status.Done ≡ status.Rejected = sym (ap (λ a. a.status) is) ∙ done in cc
+rejected_of answer judged (found.Rejected failed) done finds is = (failed, finds)
+
+-- two facts of what there is that don't go together
+ok_not_both : {X E : Type 0} (r : Result X E) (P Q : X → Type 0) → ((x : X) → P x → Q x → ⊥) → IsOkAnd r P → IsOkAnd r Q → ⊥
+ok_not_both (Ok x) P Q clash p q = clash x p q
+ok_not_both (Err e) P Q clash p q = p
+
+-- texts that stand are not refused
+ok_not_refused : {X : Type 0} (r : Result X Refusal) → IsOk r → IsSome (option_map refused_line (result_err r)) → ⊥
+ok_not_refused (Ok x) ok refused = true≢false (sym refused)
+ok_not_refused (Err why) ok refused = true≢false (sym ok)
+
+-- texts of which a fact holds stand
+ok_of : {X E : Type 0} (r : Result X E) (P : X → Type 0) → IsOkAnd r P → IsOk r
+ok_of (Ok x) P is = refl
+ok_of (Err e) P is = absurd is
+
+-- a fact of what is there gives another
+some_and : {X : Type 0} (o : Option X) (P Q : X → Type 0) → ((x : X) → P x → Q x) → IsSomeAnd o P → IsSomeAnd o Q
+some_and None P Q more is = is
+some_and (Some x) P Q more is = more x is
+
+-- a fact that never holds holds of nothing that is there
+pub some_never : {X : Type 0} (o : Option X) (P : X → Type 0) → ((x : X) → P x → ⊥) → IsSomeAnd o P → ⊥
+some_never None P never p = p
+some_never (Some x) P never p = never x p
+
+-- two facts that don't go together
+pub some_not_both : {X : Type 0} (o : Option X) (P Q : X → Type 0) → ((x : X) → P x → Q x → ⊥) → IsSomeAnd o P → IsSomeAnd o Q → ⊥
+some_not_both None P Q clash p q = p
+some_not_both (Some x) P Q clash p q = clash x p q
+
+-- what is there isn't none
+some_not_none : {X : Type 0} (o : Option X) (P : X → Type 0) → IsSomeAnd o P → IsNone o → ⊥
+some_not_none None P is none = is
+some_not_none (Some x) P is none = true≢false none
+
+-- what is some isn't none
+is_there : {X : Type 0} (o : Option X) (x : X) → o ≡ Some x → IsNone o → ⊥
+is_there o x is none = true≢false (sym (ap is_some is) ∙ none)
+
+-- What the status of a call says of the words and of its answer.
+pub record Called (words : List (String Global)) (before now : Files) (said_before said_now : Option (List ℕ)) (number : ℕ) : Type 0 where
+  pub statuses : (number ≡ 1) ⊎ IsAnswered number ⊎ IsExcused number
+  pub usage : number ≡ 1 → IsNone (command_of words)
+  pub answered : IsAnswered number → Answered number words before now said_before said_now
+
+-- A command that has an answer of its own, of this status.
+record Own (meaning : Meaning) (before now : Files) (due : Status) : Type 0 where
+  pub answer : Answer
+  pub has_status : answer.status ≡ due
+  pub finishes : Finishes meaning before now answer
+
+-- an answer of the words' command that is no refusal is its own
+own_of : (words : List (String Global)) (before now : Files) (given : Command) (due : Status) (answer : Answer) → command_of words ≡ Some given
+    → answer.status ≡ due → (due ≡ status.Refused → ⊥) → IsAnswer words before now answer → Own (meaning_of given words) before now due
+own_of words before now given due answer is has_status other ends = record {
+  answer = answer;
+  has_status = has_status;
+  finishes = own _ before now answer (λ h. other (sym has_status ∙ h)) (of_words words given (λ m. Ends m before now answer) is ends) }
+
+module _ {words : List (String Global)} {before now : Files} {said_before said_now : Option (List ℕ)} {number : ℕ}
+    (called : Called words before now said_before said_now number) where
+  -- at status 0 a command is done
+  done : (given : Command) → command_of words ≡ Some given → number ≡ 0 → Own (meaning_of given words) before now status.Done
+  done given is zero =
+      let all : Answered number words before now said_before said_now = called.answered (inl zero) in
+      own_of words before now given status.Done all.0 is (done_number all.0.status (sym zero ∙ all.1)) (λ h. cc) all.2
+
+  -- at status 5 a command rejects
+  rejects : (given : Command) → command_of words ≡ Some given → number ≡ 5 → Own (meaning_of given words) before now status.Rejected
+  rejects given is five =
+      let all : Answered number words before now said_before said_now = called.answered (inr (inr five)) in
+      own_of words before now given status.Rejected all.0 is (rejected_number all.0.status (sym five ∙ all.1)) (λ h. cc) all.2
+
+  -- at status 4 a text is refused
+  pub refused_text : number ≡ 4 → IsSome before → OfCommand words (IsRefused before)
+  refused_text four told =
+      let all : Answered number words before now said_before said_now = called.answered (inr (inl four)) in
+      some_and (command_of words) _ _
+      (λ c ends. refusing (meaning_of c words) before now all.0 (refused_number all.0.status (sym four ∙ all.1)) told ends) all.2
+
+  -- `check` accepts at status 0, and all that follows from the acceptance rule holds
+  pub check_accepted : number ≡ 0 → IsSome before → IsCheck words → Accepts (names_in words) before
+  check_accepted zero told check =
+      let all : Own (check_meaning (names_in words)) before now status.Done = done _ check.1 zero in
+      ok_and (texts_at (names_in words) before) _ _ (λ judged h. accepted_of all.answer judged h.0 all.has_status h.1 h.2) (all.finishes.answers told)
+
+  check_all : number ≡ 0 → IsSome before → IsCheck words → HasAll (names_in words) before
+  check_all zero told check =
+      let all : Own (check_meaning (names_in words)) before now status.Done = done _ check.1 zero in all.finishes.shows told all.has_status
+
+  pub check_one_place : number ≡ 0 → IsSome before → IsCheck words → HasOnePlace (names_in words) before
+  check_one_place zero told check = ok_and (texts_at (names_in words) before) Holds _ (λ judged all. all.one_place) (check_all zero told check)
+
+  pub check_passes : number ≡ 0 → IsSome before → IsCheck words → HasPassing (names_in words) before
+  check_passes zero told check = ok_and (texts_at (names_in words) before) Holds _ (λ judged all. all.passes) (check_all zero told check)
+
+  -- `check` rejects at status 5
+  pub check_rejected : number ≡ 5 → IsSome before → IsCheck words → Rejects (names_in words) before
+  check_rejected five told check =
+      let all : Own (check_meaning (names_in words)) before now status.Rejected = rejects _ check.1 five in
+      ok_and (texts_at (names_in words) before) _ _ (λ judged h. rejected_of all.answer judged h.0 all.has_status h.1 h.2) (all.finishes.answers told)
+
+  -- `plan` has written at status 0, and `check` accepts what it wrote
+  pub plan_done : number ≡ 0 → IsSome before → IsPlan words → IsPlanned (names_in words) before now
+  plan_done zero told plan =
+      let all : Own (plan_meaning (names_in words)) before now status.Done = done _ plan.2 zero in all.finishes.leaves told
+
+  pub plan_accepted : number ≡ 0 → IsSome before → IsPlan words → Accepts (names_in words) now
+  plan_accepted zero told plan =
+      let all : Own (plan_meaning (names_in words)) before now status.Done = done _ plan.2 zero in all.finishes.shows told
+
+  -- `plan` never rejects
+  plan_rejects : number ≡ 5 → IsPlan words → ⊥
+  plan_rejects five plan =
+      let all : Own (plan_meaning (names_in words)) before now status.Rejected = rejects _ plan.2 five in
+      let e : status.Done ≡ status.Rejected = sym (ap (λ a. a.status) all.finishes.has) ∙ all.has_status in cc
+
+  -- where the words are the line of a command, its status is that of an answer, or excused
+  by_status : {G : Type 0} → (IsNone (command_of words) → ⊥) → (number ≡ 0 → G) → (number ≡ 4 → G) → (number ≡ 5 → G) → (IsExcused number → G) → G
+  by_status {G = G} some at_done at_refused at_rejected excused = elim called.statuses [
+      inl one ↦ absurd (some (called.usage one))
+    | inr rest ↦ elim rest [
+        inl answered ↦ elim answered [ inl zero ↦ at_done zero | inr more ↦ elim more [ inl four ↦ at_refused four | inr five ↦ at_rejected five ] ]
+      | inr is ↦ excused is ] ]
+
+  -- a text that the command refuses doesn't stand
+  refused_at : (given : Command) → command_of words ≡ Some given → IsSome before → number ≡ 4 → IsRefused before (meaning_of given words)
+  refused_at given is told four = of_words words given (IsRefused before) is (refused_text four told)
+
+  -- where a text is refused the command has no answer of its own
+  not_own : (answered : IsAnswered number) (due : Status) → (called.answered answered).0.status ≡ due → (due ≡ status.Refused → ⊥)
+      → IsSome before → OfCommand words (IsRefused before) → ⊥
+  not_own answered due has_status other told refused = some_not_both (command_of words) _ _
+      (λ c ends is. true≢false (sym is ∙ ap is_some
+      ((own (meaning_of c words) before now (called.answered answered).0 (λ h. other (sym has_status ∙ h)) ends).stand told))) (called.answered answered).2 refused
+
+  -- a refused text has status 4, or is excused
+  pub text_refused : IsSome before → OfCommand words (IsRefused before) → (number ≡ 4) ⊎ IsExcused number
+  text_refused told refused = by_status (some_not_none (command_of words) _ refused)
+      (λ zero. absurd (not_own (inl zero) status.Done (done_number _ (sym zero ∙ (called.answered (inl zero)).1)) (λ h. cc) told refused))
+      inl
+      (λ five. absurd (not_own (inr (inr five)) status.Rejected (rejected_number _ (sym five ∙ (called.answered (inr (inr five))).1)) (λ h. cc) told refused))
+      inr
+
+  -- `check` accepts
+  pub check_accepts : IsSome before → IsCheck words → Accepts (names_in words) before → (number ≡ 0) ⊎ IsExcused number
+  check_accepts told check accepts = by_status (is_there (command_of words) _ check.1)
+      inl
+      (λ four. absurd (ok_not_refused (texts_at (names_in words) before) (ok_of _ IsAccepted accepts) (refused_at _ check.1 told four)))
+      (λ five. absurd (ok_not_both (texts_at (names_in words) before) IsAccepted IsRejected
+      (λ judged holds fails. exclusive judged holds.0 fails.0 holds.1 fails.1) accepts (check_rejected five told check)))
+      inr
+
+  -- `check` rejects texts that stand and that it doesn't accept
+  pub check_rejects : IsSome before → IsCheck words → IsOk (texts_at (names_in words) before) → (Accepts (names_in words) before → ⊥)
+      → (number ≡ 5) ⊎ IsExcused number
+  check_rejects told check stand refused = by_status (is_there (command_of words) _ check.1)
+      (λ zero. absurd (refused (check_accepted zero told check)))
+      (λ four. absurd (ok_not_refused (texts_at (names_in words) before) stand (refused_at _ check.1 told four)))
+      inl
+      inr
+
+  -- `plan` is done
+  pub plan_plans : IsSome before → IsPlan words → IsOk (problem_at (names_in words) before) → (number ≡ 0) ⊎ IsExcused number
+  plan_plans told plan stands = by_status (is_there (command_of words) _ plan.2)
+      inl
+      (λ four. absurd (ok_not_refused (problem_at (names_in words) before) stands (refused_at _ plan.2 told four)))
+      (λ five. absurd (plan_rejects five plan))
+      inr
+
+-- `check` writes nothing
+pub check_idle : (words : List (String Global)) → IsCheck words → OfCommand words (λ meaning. meaning.writes ≡ [])
+check_idle words check = subst (λ o. IsSomeAnd o (λ c. (meaning_of c words).writes ≡ [])) (sym check.1) refl
