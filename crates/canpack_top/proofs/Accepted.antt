@@ -11,7 +11,7 @@ use Rattle.matrix_text.specs.Placed.{Placed}
 use Rattle.cert_text.specs.CertText.{cert_of_text, placed_parts}
 use Rattle.cert_text.specs.Writing.{HasRoom, NumbersFit, cert_text}
 use Rattle.cert_text.proofs.Back.{cert_back}
-use Rattle.cert_check.specs.declared.verdict.Verdict.TheVariants as verdict
+use Rattle.bandwidth_bound.specs.declared.verdict.Verdict.TheVariants as verdict
 use Rattle.canpack_top.specs.declared.refusal.Role.TheVariants as role
 use Rattle.canpack_top.specs.Check.{Accepts, texts_at}
 use Rattle.canpack_top.specs.Files.{cert_at, matrix_at, network_at, problem_at, signals_at, size_limit, text_limit}
@@ -68,4 +68,4 @@ written_accepted names before now p rows text told written stands nm nc sm sc sm
     same_problem names before now (written.others told names.network nm nc) (written.others told names.signals sm sc) ∙ stands in
     let matrix : matrix_at now names.matrix ≡ Ok rows = file_matrix now names.matrix text rows (written.first_whole told) small reads in
     let cert : cert_at now names.cert ≡ Ok placed_parts = file_cert now names.cert (written.second_whole told) in
-    rw (problem, matrix, cert) (verdict.Placed, (refl, placed))
+    rw (problem, matrix, cert) (verdict.Placed, record { rule = record { matrix = placed; timing = refl; tree = tt }; of_kind = refl })

@@ -4,14 +4,14 @@ use Rattle.std.specs.Result.{result_err}
 use Rattle.std.specs.declared.alloc.Global.{Global}
 use Rattle.pack_base.specs.Outside.{Files}
 use Rattle.cert_text.specs.declared.parts.Kind.TheVariants.{KindPlaced, KindTimed}
-use Rattle.cert_check.specs.declared.verdict.Verdict.{Verdict}
-use Rattle.cert_check.specs.declared.verdict.Verdict.TheVariants as verdict
+use Rattle.bandwidth_bound.specs.declared.verdict.Verdict.{Verdict}
+use Rattle.bandwidth_bound.specs.declared.verdict.Verdict.TheVariants as verdict
 use Rattle.canpack_top.specs.declared.command.Command.{Command}
 use Rattle.canpack_top.specs.declared.ending.Status.{Status}
 use Rattle.canpack_top.specs.declared.ending.Status.TheVariants as status
 use Rattle.canpack_top.specs.declared.refusal.Refusal.{Refusal}
-use Rattle.canpack_top.specs.declared.verdict.Part.{Part}
-use Rattle.canpack_top.specs.declared.verdict.Part.TheVariants as part
+use Rattle.bandwidth_bound.specs.declared.verdict.Part.{Part}
+use Rattle.bandwidth_bound.specs.declared.verdict.Part.TheVariants as part
 use Rattle.canpack_top.specs.declared.verdict.Found.{Found}
 use Rattle.canpack_top.specs.declared.verdict.Found.TheVariants as found
 use Rattle.canpack_top.specs.Answer.{Answered, IsAnswer, IsAnswered, IsExcused, IsRefused}
@@ -23,7 +23,9 @@ use Rattle.canpack_top.specs.Files.{problem_at}
 use Rattle.canpack_top.specs.Line.{refused_line}
 use Rattle.canpack_top.specs.Meaning.{Answer, Ends, Finishes, Meaning}
 use Rattle.canpack_top.specs.Plan.{IsPlanned, plan_meaning}
-use Rattle.canpack_top.specs.Verdict.{Finds, Holds, IsAccepted, IsRejected, Judged}
+use Rattle.canpack_top.specs.Verdict.{Finds, IsAccepted, IsRejected}
+use Rattle.bandwidth_bound.specs.Rule.{Judged}
+use Rattle.bandwidth_bound.specs.Follows.{Holds}
 use Rattle.canpack_top.proofs.Runs.{ok_and}
 
 -- a fact of the command that the words are
@@ -61,15 +63,9 @@ refusing meaning before now answer is told (inr refuses) = ap is_some (refuses.f
 
 -- the acceptance rule doesn't both hold and fail
 exclusive : (judged : Judged) (shown : Verdict) (failed : Part) → Finds (found.Shown shown) judged → Finds (found.Rejected failed) judged → ⊥
-exclusive judged verdict.Placed part.Matrix holds fails = fails holds.1
-exclusive judged verdict.Placed part.Timing holds fails = let h : KindPlaced ≡ KindTimed = sym holds.0 ∙ fails.0 in cc
-exclusive judged verdict.Placed part.Tree holds fails = fails
-exclusive judged (verdict.Timed load) part.Matrix holds fails = fails holds.1
-exclusive judged (verdict.Timed load) part.Timing holds fails = fails.2 holds.2
-exclusive judged (verdict.Timed load) part.Tree holds fails = fails
-exclusive judged (verdict.Between best lower) failed holds fails = holds
-exclusive judged (verdict.Best load) failed holds fails = holds
-exclusive judged verdict.NoSolution failed holds fails = holds
+exclusive judged shown part.Matrix holds fails = fails holds.rule.matrix
+exclusive judged shown part.Timing holds fails = fails.1 holds.rule.timing
+exclusive judged shown part.Tree holds fails = fails.2 holds.rule.tree
 
 -- an answer with status 0 is that of a verdict, and one with status 5 that of a part that fails
 accepted_of : (answer : Answer) (judged : Judged) (what : Found) → answer.status ≡ status.Done → Finds what judged

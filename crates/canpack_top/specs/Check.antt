@@ -17,7 +17,9 @@ use Rattle.canpack_top.specs.Files.{cert_at, matrix_at, problem_at}
 use Rattle.canpack_top.specs.Line.{refused_line}
 use Rattle.canpack_top.specs.Meaning.{Answer, Meaning}
 use Rattle.canpack_top.specs.Reads.{check_names}
-use Rattle.canpack_top.specs.Verdict.{Finds, FramesPass, Holds, IsAccepted, IsRejected, Judged, found_line}
+use Rattle.canpack_top.specs.Verdict.{Finds, FramesPass, IsAccepted, IsRejected, found_line}
+use Rattle.bandwidth_bound.specs.Rule.{Judged}
+use Rattle.bandwidth_bound.specs.Follows.{Holds}
 
 -- what the four files that are named say, or the first refusal
 unfoldable pub texts_at : Names → Files → Result Judged Refusal

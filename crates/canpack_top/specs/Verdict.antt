@@ -1,26 +1,18 @@
 -- What the acceptance rule says of the problem, the matrix and the certificate of texts that stand, and its lines.
 use Rattle.std.specs.Prelude.{◌≡◌, ⊤, ℕ, ◌*◌, List, ◌++◌, codes, decimal, Option, None, Some, Result, Ok, Err}
-use Rattle.pack_model.specs.Problem.{Parts}
-use Rattle.matrix_rows.specs.declared.matrix.MatrixRow.{MatrixRow}
-use Rattle.matrix_text.specs.OnePlace.{OnePlace}
 use Rattle.cert_text.specs.declared.parts.Kind.TheVariants.{KindTimed}
-use Rattle.cert_text.specs.Parts.{CertParts}
-use Rattle.cert_check.specs.Accept.{AllPass, IsFound}
-use Rattle.cert_check.specs.declared.verdict.CheckFault.{CheckFault}
-use Rattle.cert_check.specs.declared.verdict.CheckFault.TheVariants as fault
-use Rattle.cert_check.specs.declared.verdict.Verdict.{Verdict}
-use Rattle.cert_check.specs.declared.verdict.Verdict.TheVariants as verdict
+use Rattle.bandwidth_bound.specs.declared.verdict.Part.{Part}
+use Rattle.bandwidth_bound.specs.declared.verdict.Part.TheVariants as part
+use Rattle.bandwidth_bound.specs.declared.verdict.Verdict.{Verdict}
+use Rattle.bandwidth_bound.specs.declared.verdict.Verdict.TheVariants as verdict
+use Rattle.bandwidth_bound.specs.Rule.{FailsFirst, Judged}
+use Rattle.bandwidth_bound.specs.Rule as rule
+use Rattle.bandwidth_bound.specs.Timing.{AllPass}
+use Rattle.cert_check.specs.declared.fault.CheckFault.{CheckFault}
+use Rattle.cert_check.specs.declared.fault.CheckFault.TheVariants as fault
 use Rattle.canpack_top.specs.declared.verdict.Found.{Found}
 use Rattle.canpack_top.specs.declared.verdict.Found.TheVariants as found
-use Rattle.canpack_top.specs.declared.verdict.Part.{Part}
-use Rattle.canpack_top.specs.declared.verdict.Part.TheVariants as part
 use Rattle.canpack_top.specs.Line.{line, placed_line}
-
--- What is judged.
-pub record Judged : Type 0 where
-  pub problem : Parts
-  pub matrix : List MatrixRow
-  pub cert : CertParts
 
 -- the checker's answer, want of memory aside
 abbrev pub found_of : Result Verdict CheckFault → Option Found
@@ -30,12 +22,10 @@ found_of (Err fault.RejectedTiming) = Some (found.Rejected part.Timing)
 found_of (Err fault.RejectedTree) = Some (found.Rejected part.Tree)
 found_of (Err fault.Memory) = None
 
--- the acceptance rule finds this: the verdict that the certificate shows, or the first part that doesn't hold
+-- the acceptance rule finds this: it holds with the verdict, or the part is the first that doesn't hold
 abbrev pub Finds : Found → Judged → Type 0
-Finds (found.Shown shown) judged = IsFound judged.problem judged.matrix judged.cert (Ok shown)
-Finds (found.Rejected part.Matrix) judged = IsFound judged.problem judged.matrix judged.cert (Err fault.RejectedMatrix)
-Finds (found.Rejected part.Timing) judged = IsFound judged.problem judged.matrix judged.cert (Err fault.RejectedTiming)
-Finds (found.Rejected part.Tree) judged = IsFound judged.problem judged.matrix judged.cert (Err fault.RejectedTree)
+Finds (found.Shown shown) judged = rule.Accepts judged shown
+Finds (found.Rejected failed) judged = FailsFirst failed judged
 
 -- the acceptance rule holds: the certificate shows a verdict
 abbrev pub IsAccepted : Judged → Type 0
@@ -48,11 +38,6 @@ IsRejected judged = (failed : Part) × Finds (found.Rejected failed) judged
 -- where the certificate is of kind `timed`, each frame passes the written test
 abbrev pub FramesPass : Judged → Type 0
 FramesPass judged = judged.cert.kind ≡ KindTimed → AllPass judged.problem judged.matrix
-
--- What follows where the acceptance rule holds: each signal has one place of its own, and the frames pass.
-pub record Holds (judged : Judged) : Type 0 where
-  pub one_place : OnePlace judged.problem judged.matrix
-  pub passes : FramesPass judged
 
 -- a load or a bound, over what it is counted in, and LF
 abbrev pub fraction : ℕ → ℕ → List ℕ

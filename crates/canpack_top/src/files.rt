@@ -2,7 +2,6 @@
 ghost use Rattle.std.specs.Prelude.{◌≡◌, IfOk, IsSome, IsErrOf, All};
 ghost use Rattle.pack_model.specs.Network.{NetworkStands};
 ghost use Rattle.pack_model.specs.Signal.{SignalStands};
-ghost use Rattle.cert_text.specs.Parts.{HasText};
 ghost use Rattle.canpack_top.specs.Files.{cert_at, matrix_at, network_at, signals_at};
 ghost use Rattle.canpack_top.specs.Ending.{Gives};
 ghost use Rattle.canpack_top.specs.Reads.{FaultAt, ReadsOnly};
@@ -64,12 +63,11 @@ pub fn matrix_at<F: Folder>(alloc: Global, folder: &mut F, name: &str) -> Result
     matrix_in(alloc, &text)
 }
 
-/// The certificate of a file, which is of the kind `placed` or `timed`.
+/// The certificate of a file.
 #[tactic(auto, unfolding(crate::specs::Files::cert_at))]
 pub fn cert_at<F: Folder>(alloc: Global, folder: &mut F, name: &str) -> Result<Cert, Stop>
     ensures exact { IsSome (F.files folder.old)
         → Gives (λ cert. cert) result (cert_at (F.files folder.old) name.now) }
-    ensures kind { IfOk result (λ cert. HasText cert.kind) }
     ensures read_fault { IsErrOf result Stop.ReadFault
         → FaultAt (F.read_faults folder.old) (F.read_faults folder.new) name.now }
     ensures only { ReadsOnly F.files F.read_faults F.write_faults F.given folder.old folder.new }

@@ -6,7 +6,6 @@ ghost use Rattle.input_text.specs.NetworkText.{network_refusal};
 ghost use Rattle.input_text.specs.SignalsText.{signals_refusal};
 ghost use Rattle.matrix_text.specs.MatrixText.{matrix_refusal};
 ghost use Rattle.cert_text.specs.CertText.{cert_refusal};
-ghost use Rattle.cert_text.specs.Parts.{HasText};
 ghost use Rattle.canpack_top.specs.Ending.{Says, stop_of};
 ghost use Rattle.canpack_top.specs.Text.{
   cert_in,
@@ -118,11 +117,10 @@ fn cert_stop(fault: CertFault) -> Stop
     }
 }
 
-/// The certificate of a text, which is of the kind `placed` or `timed`.
+/// The certificate of a text.
 #[tactic(auto, using(crate::proofs::Stops::says_stop), unfolding(crate::specs::Text::cert_in))]
 pub fn cert_in(alloc: Global, text: &[u8]) -> Result<Cert, Stop>
     ensures exact { Says (λ cert. cert) result (cert_in text.now) }
-    ensures kind { IfOk result (λ cert. HasText cert.kind) }
 {
     match read_cert(alloc, text) {
         Ok(cert) => Ok(cert),

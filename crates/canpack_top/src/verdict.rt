@@ -1,9 +1,8 @@
 //! What the acceptance rule finds of a certificate, and its lines.
 ghost use Rattle.std.specs.Prelude.{◌≡◌, ◌^◌, ◌<◌, IfOk, string_bytes};
-ghost use Rattle.cert_text.specs.Parts.{HasText};
+ghost use Rattle.bandwidth_bound.specs.Follows.{Holds};
 ghost use Rattle.canpack_top.specs.Verdict.{
   Finds,
-  Holds,
   IsShown,
   found_line,
   found_of,
@@ -11,22 +10,12 @@ ghost use Rattle.canpack_top.specs.Verdict.{
   verdict_line,
 };
 
-use cert_check::{CheckFault, Verdict, check_cert};
+use bandwidth_bound::{Part, Verdict};
+use cert_check::{CheckFault, check_cert};
 use cert_text::Cert;
 use matrix_text::Matrix;
 use pack_model::{Memory, Problem};
 use std::alloc::{AllocError, Global};
-
-/// A part of the acceptance rule.
-#[derive(Clone, Copy, Debug, PartialEq, Eq)]
-pub enum Part {
-    /// The matrix is placed.
-    Matrix,
-    /// Each frame is shown to meet its deadline.
-    Timing,
-    /// The trees show what the kind says.
-    Tree,
-}
 
 /// What is found of texts that stand.
 #[derive(Clone, Copy, Debug, PartialEq, Eq)]
@@ -50,15 +39,14 @@ fn found_of(answer: Result<Verdict, CheckFault>) -> Option<Found>
     }
 }
 
-/// Judges a certificate of the kind `placed` or `timed`: what it shows of a problem's matrix, or the first part of
-/// the acceptance rule that doesn't hold.
+/// Judges a certificate: what it shows of a problem's matrix, or the first part of the acceptance rule that doesn't
+/// hold.
 pub fn judge(
     alloc: Global,
     problem: &Problem,
     matrix: &Matrix,
     cert: &Cert,
 ) -> Result<Found, Memory>
-    requires { HasText cert.now.kind }
     ensures finds { IfOk result (λ what. Finds what
         (record { problem = problem.now; matrix = matrix.now; cert = cert.now })) }
     ensures holds { IfOk result (λ what. IsShown what

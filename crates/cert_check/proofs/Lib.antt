@@ -1,2 +1,3 @@
-pub mod Stages
+pub mod KindLaws
 pub mod Lines
+pub mod Stages

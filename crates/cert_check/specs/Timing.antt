@@ -6,10 +6,8 @@ use Rattle.class_frame.specs.Grouping.{classes_of}
 use Rattle.busy_period.specs.declared.timed.Timed.{Timed}
 use Rattle.response_test.specs.Frame.{FramePasses, IsShown}
 use Rattle.cert_text.specs.declared.parts.FrameLine.{FrameLine}
-use Rattle.cert_check.specs.declared.verdict.Verdict.{Verdict}
-use Rattle.cert_check.specs.declared.verdict.Verdict.TheVariants as verdict
-use Rattle.cert_check.specs.declared.verdict.CheckFault.{CheckFault}
-use Rattle.cert_check.specs.declared.verdict.CheckFault.TheVariants as fault
+use Rattle.cert_check.specs.declared.fault.CheckFault.{CheckFault}
+use Rattle.cert_check.specs.declared.fault.CheckFault.TheVariants as fault
 use Rattle.class_frame.specs.Classes.{frames_of_classes, load_of}
 
 -- the order names as many different labels as there are classes
@@ -31,23 +29,10 @@ ClassesShown problem labels order lines = AreShown (frames_of_classes problem pr
 abbrev pub ClassesPass : Parts → List ℕ → List ℕ → Type 0
 ClassesPass problem labels order = (place : ℕ) → place < length order → FramePasses (frames_of_classes problem problem.items labels) order place problem.network.nominal_ticks
 
--- the answer is the verdict with the load where the lines show it, and else the fault of the timing
-abbrev pub IsTimed : Parts → List ℕ → List ℕ → List FrameLine → Result Verdict CheckFault → Type 0
-IsTimed problem labels order lines (Ok verdict.Placed) = ⊥
-IsTimed problem labels order lines (Ok (verdict.Timed load)) = ClassesShown problem labels order lines × (load ≡ load_of problem problem.items labels)
-IsTimed problem labels order lines (Ok (verdict.Between best lower)) = ⊥
-IsTimed problem labels order lines (Ok (verdict.Best load)) = ⊥
-IsTimed problem labels order lines (Ok verdict.NoSolution) = ⊥
+-- the answer is the load where the lines show it, and else the fault of the timing
+abbrev pub IsTimed : Parts → List ℕ → List ℕ → List FrameLine → Result ℕ CheckFault → Type 0
+IsTimed problem labels order lines (Ok load) = ClassesShown problem labels order lines × (load ≡ load_of problem problem.items labels)
 IsTimed problem labels order lines (Err fault.RejectedMatrix) = ⊥
 IsTimed problem labels order lines (Err fault.RejectedTiming) = ¬ ClassesShown problem labels order lines
 IsTimed problem labels order lines (Err fault.RejectedTree) = ⊥
 IsTimed problem labels order lines (Err fault.Memory) = ⊤
-
--- where the answer is the verdict, each of the classes' frames passes
-abbrev pub PassIfTimed : Parts → List ℕ → List ℕ → Result Verdict CheckFault → Type 0
-PassIfTimed problem labels order (Ok (verdict.Timed load)) = ClassesPass problem labels order
-PassIfTimed problem labels order (Ok verdict.Placed) = ⊤
-PassIfTimed problem labels order (Ok (verdict.Between best lower)) = ⊤
-PassIfTimed problem labels order (Ok (verdict.Best load)) = ⊤
-PassIfTimed problem labels order (Ok verdict.NoSolution) = ⊤
-PassIfTimed problem labels order (Err _) = ⊤

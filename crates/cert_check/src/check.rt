@@ -1,47 +1,48 @@
-//! The acceptance rule.
+//! The checking of a certificate.
 ghost use Rattle.std.specs.Prelude.{OnOk};
-ghost use Rattle.matrix_text.specs.OnePlace.{OnePlace};
-ghost use Rattle.cert_check.specs.Accept.{IsFound, IsJudged, PassWhereTimed};
+ghost use Rattle.bandwidth_bound.specs.Follows.{Holds};
+ghost use Rattle.cert_check.specs.Accept.{IsFound, judged_of};
 
+use crate::fault::CheckFault;
+use crate::kinds::{answer_with_load, fault_without_rows, is_kind_placed, is_to_be_placed};
 use crate::timing::judge_timing;
-use crate::verdict::{CheckFault, Verdict};
-use cert_text::{Cert, Kind};
+use bandwidth_bound::Verdict;
+use cert_text::Cert;
 use matrix_text::{Matrix, labels_of};
 use pack_model::Problem;
 use std::alloc::Global;
 
-/// The verdict of a certificate of the kind `placed` or `timed` on a problem's matrix.
+/// The verdict of a certificate on a problem's matrix, by the acceptance rule.
 ///
 /// # Errors
 ///
-/// `RejectedMatrix` where the matrix is not placed; else, for the kind `timed`, `RejectedTiming` where the frame lines
-/// do not show that each frame passes in the order of ascending identifiers; `Memory` where memory runs out.
+/// The first part of the rule that fails: `RejectedMatrix`, `RejectedTiming` or `RejectedTree`, the last for each kind
+/// with trees, which are not judged yet; `Memory` where memory runs out.
 pub fn check_cert(
     alloc: Global,
     problem: &Problem,
     matrix: &Matrix,
     cert: &Cert,
 ) -> Result<Verdict, CheckFault>
-    requires kind { IsJudged cert.now.kind }
     ensures found { IsFound problem.now matrix.now cert.now result }
-    ensures one_place { OnOk result (OnePlace problem.now matrix.now) }
-    ensures passes { PassWhereTimed problem.now matrix.now result }
+    ensures holds { OnOk result (Holds (judged_of problem.now matrix.now cert.now)) }
 {
+    let kind = cert.kind();
+    let lines = cert.frames();
+    if !is_to_be_placed(kind, matrix.rows()) {
+        return Err(fault_without_rows(matrix.rows(), lines));
+    }
     let items = problem.items().len();
     let mut labels = vec![in alloc; 0u32; items]?;
     let mut order = vec![in alloc; 0u32; items]?;
     let Some(frames) = labels_of(problem, matrix, &mut labels, &mut order) else {
         return Err(CheckFault::RejectedMatrix);
     };
-    match cert.kind() {
-        Kind::KindPlaced => Ok(Verdict::Placed),
-        Kind::KindTimed => judge_timing(
-            alloc,
-            problem,
-            &labels,
-            &order[..frames as usize],
-            cert.frames(),
-        ),
-        _ => unreachable!(),
+    if is_kind_placed(kind) {
+        return Ok(Verdict::Placed);
+    }
+    match judge_timing(alloc, problem, &labels, &order[..frames as usize], lines) {
+        Ok(load) => answer_with_load(kind, load),
+        Err(fault) => Err(fault),
     }
 }

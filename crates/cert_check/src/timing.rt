@@ -1,14 +1,14 @@
 //! The timing part of a certificate.
-ghost use Rattle.std.specs.Prelude.{◌<◌, ℕ, ◌↔◌, IsTrue, length};
+ghost use Rattle.std.specs.Prelude.{◌<◌, ℕ, ◌↔◌, IsTrue, OnOk, length};
 ghost use Rattle.busy_period.specs.Stage.{IsStage};
 ghost use Rattle.response_test.specs.Queueing.{IsBit};
 ghost use Rattle.response_test.specs.Frame.{FramePasses};
 ghost use Rattle.class_frame.specs.Grouping.{IsGrouping};
-ghost use Rattle.cert_check.specs.Timing.{AreOrdered, AreShown, IsTimed, PassIfTimed};
+ghost use Rattle.cert_check.specs.Timing.{AreOrdered, AreShown, ClassesPass, IsTimed};
 
+use crate::fault::CheckFault;
 use crate::frames::class_frames;
 use crate::load::load_of_frames;
-use crate::verdict::{CheckFault, Verdict};
 use busy_period::Timed;
 use cert_text::FrameLine;
 use pack_model::Problem;
@@ -35,25 +35,24 @@ fn lines_show(frames: &[Timed], order: &[u32], bit: u64, lines: &[FrameLine]) ->
     true
 }
 
-/// Judges the frame lines of a certificate of the kind `timed`: the verdict, with the load of the grouping. The labels
-/// group the problem's items, and the order names each of the classes once.
+/// Judges the frame lines of a certificate: the load of the grouping in ticks a common period, where the lines show that
+/// each frame passes. The labels group the problem's items, and the order names each of the classes once.
 pub(crate) fn judge_timing(
     alloc: Global,
     problem: &Problem,
     labels: &[u32],
     order: &[u32],
     lines: &[FrameLine],
-) -> Result<Verdict, CheckFault>
+) -> Result<u128, CheckFault>
     requires grouping { IsGrouping problem.now.items labels.now }
     requires order { AreOrdered labels.now order.now }
     ensures found { IsTimed problem.now labels.now order.now lines.now result }
-    ensures passes { PassIfTimed problem.now labels.now order.now result }
+    ensures passes { OnOk result (ClassesPass problem.now labels.now order.now) }
 {
     let bit = u64::from(problem.network().nominal_ticks);
     let frames = class_frames(alloc, problem, labels, order.len() as u32)?;
     if !lines_show(&frames, order, bit, lines) {
         return Err(CheckFault::RejectedTiming);
     }
-    let load = load_of_frames(&frames, problem.hyper());
-    Ok(Verdict::Timed { load })
+    Ok(load_of_frames(&frames, problem.hyper()))
 }

@@ -1,5 +1,4 @@
-use Rattle.std.proofs.Common.{◌≡◌, ◌<◌, ◌++◌, ℕ, List, All, length, take, ap, sym, ◌∙◌, subst, arith, nat_eq, length-take-le}
-use Rattle.std.specs.Prelude.{Result, Ok, Err}
+use Rattle.std.proofs.Common.{◌≡◌, ◌<◌, ◌++◌, ℕ, List, All, length, take, ap, sym, ◌∙◌, subst, arith, nat_eq, length-take-le, true, false, Ok, Err}
 use Rattle.std.specs.List.{IsDistinct}
 use Rattle.std.proofs.lemmas.List.{take-append-le, take_all}
 use Rattle.pack_model.specs.Problem.{Parts}
@@ -7,11 +6,10 @@ use Rattle.class_frame.specs.Grouping.{IsGrouping, IsOrder}
 use Rattle.class_frame.proofs.GroupingLaws.{classes_of-le-length, distinct-order, length-order}
 use Rattle.matrix_rows.specs.declared.matrix.MatrixRow.{MatrixRow}
 use Rattle.matrix_text.specs.Frames.{grouping_of, order_of}
-use Rattle.cert_check.specs.Timing.{AreOrdered, PassIfTimed}
-use Rattle.cert_check.specs.Accept.{PassWhereTimed}
-use Rattle.cert_check.specs.declared.verdict.Verdict.{Verdict}
-use Rattle.cert_check.specs.declared.verdict.Verdict.TheVariants as verdict
-use Rattle.cert_check.specs.declared.verdict.CheckFault.{CheckFault}
+use Rattle.cert_check.specs.Accept.{IsFound}
+use Rattle.cert_check.specs.Kinds.{answer_with_load, is_kind_placed, is_to_be_placed}
+use Rattle.cert_check.specs.Timing.{AreOrdered, IsTimed}
+use Rattle.cert_check.proofs.KindLaws.{found_with_load, fault_of_lines}
 use Rattle.cert_check.proofs.check.check_cert.Goals as goal
 
 -- a list that was written whole
@@ -22,19 +20,10 @@ whole n xs ys long = take-append-le n xs ys (omega arith) ∙ take_all n xs (ome
 ordered : (labels order : List ℕ) → IsOrder labels order → AreOrdered labels order
 ordered labels order named = record { each = length-order labels order named; below = named.only; distinct = distinct-order labels order named }
 
--- each class passes where each frame does
-passes : (problem : Parts) (rows : List MatrixRow) (result : Result Verdict CheckFault) → PassIfTimed problem (grouping_of problem rows) (order_of problem rows) result → PassWhereTimed problem rows result
-passes problem rows (Ok verdict.Placed) pass = tt
-passes problem rows (Ok (verdict.Timed load)) pass = pass
-passes problem rows (Ok (verdict.Between best lower)) pass = tt
-passes problem rows (Ok (verdict.Best load)) pass = tt
-passes problem rows (Ok verdict.NoSolution) pass = tt
-passes problem rows (Err fault) pass = tt
-
 pub slice_bounds-judge_timing-end : goal.slice_bounds-judge_timing-end
 slice_bounds-judge_timing-end c =
-    sym (length-take-le c.in-Some.frames c.deref-in-KindTimed.result.now
-    (omega (arith, c.in-Some.ensures.frames, classes_of-le-length c.args.problem.now.items c.labels_of.new.labels c.in-Some.ensures.legal.grouping, c.deref-in-KindTimed.ensures.len, c.in_ok-order.ensures.len, ap length c.items-items.ensures.items)))
+    sym (length-take-le c.in-Some.frames c.deref-2.result.now
+    (omega (arith, c.in-Some.ensures.frames, classes_of-le-length c.args.problem.now.items c.labels_of.new.labels c.in-Some.ensures.legal.grouping, c.deref-2.ensures.len, c.in_ok-order.ensures.len, ap length c.items-items.ensures.items)))
 
 pub judge_timing-requires-clause-grouping : goal.judge_timing-requires-clause-grouping
 judge_timing-requires-clause-grouping c =
@@ -44,14 +33,30 @@ judge_timing-requires-clause-grouping c =
 pub judge_timing-requires-clause-order : goal.judge_timing-requires-clause-order
 judge_timing-requires-clause-order c =
     let labels : c.deref.result.now ≡ c.labels_of.new.labels = c.deref.ensures.value ∙ whole _ _ _ (omega (arith, c.labels_of.auto.labels, c.deref_mut.ensures.len)) in
-    let order : c.deref-in-KindTimed.result.now ≡ c.labels_of.new.order = c.deref-in-KindTimed.ensures.value ∙ whole _ _ _ (omega (arith, c.labels_of.auto.order, c.deref_mut-2.ensures.len)) in
-    subst (λ l. AreOrdered l (take c.in-Some.frames c.deref-in-KindTimed.result.now)) (sym labels)
+    let order : c.deref-2.result.now ≡ c.labels_of.new.order = c.deref-2.ensures.value ∙ whole _ _ _ (omega (arith, c.labels_of.auto.order, c.deref_mut-2.ensures.len)) in
+    subst (λ l. AreOrdered l (take c.in-Some.frames c.deref-2.result.now)) (sym labels)
     (subst (λ l. AreOrdered c.labels_of.new.labels (take c.in-Some.frames l)) (sym order) (ordered c.labels_of.new.labels (take c.in-Some.frames c.labels_of.new.order) c.in-Some.ensures.named))
 
-pub returns-in-KindTimed-clause-passes : goal.returns-in-KindTimed-clause-passes
-returns-in-KindTimed-clause-passes c =
-    let labels : c.deref.result.now ≡ c.labels_of.new.labels = c.deref.ensures.value ∙ whole _ _ _ (omega (arith, c.labels_of.auto.labels, c.deref_mut.ensures.len)) in
-    let order : c.deref-in-KindTimed.result.now ≡ c.labels_of.new.order = c.deref-in-KindTimed.ensures.value ∙ whole _ _ _ (omega (arith, c.labels_of.auto.order, c.deref_mut-2.ensures.len)) in
-    passes c.args.problem.now c.args.matrix.now c.judge_timing.result
-    (subst (λ l. PassIfTimed c.args.problem.now l (order_of c.args.problem.now c.args.matrix.now) c.judge_timing.result) (labels ∙ c.in-Some.ensures.labels)
-    (subst (λ l. PassIfTimed c.args.problem.now c.deref.result.now l c.judge_timing.result) (ap (take c.in-Some.frames) order ∙ c.in-Some.ensures.order) c.judge_timing.ensures.passes))
+pub returns-in-Ok-clause-found : goal.returns-in-Ok-clause-found
+returns-in-Ok-clause-found c =
+    let labels : c.deref.result.now ≡ grouping_of c.args.problem.now c.args.matrix.now = c.deref.ensures.value ∙ whole _ _ _ (omega (arith, c.labels_of.auto.labels, c.deref_mut.ensures.len)) ∙ c.in-Some.ensures.labels in
+    let order : take c.in-Some.frames c.deref-2.result.now ≡ order_of c.args.problem.now c.args.matrix.now = ap (take c.in-Some.frames) (c.deref-2.ensures.value ∙ whole _ _ _ (omega (arith, c.labels_of.auto.order, c.deref_mut-2.ensures.len))) ∙ c.in-Some.ensures.order in
+    let is : is_to_be_placed c.args.cert.now.kind c.args.matrix.now ≡ true = sym (c.is_to_be_placed.ensures ∙ (λ i. is_to_be_placed (c.kind-kind.ensures.value i) (c.rows.ensures.rows i))) ∙ c.if-not-is_to_be_placed.false in
+    let other : is_kind_placed c.args.cert.now.kind ≡ false = sym (c.is_kind_placed.ensures ∙ ap is_kind_placed c.kind-kind.ensures.value) ∙ c.if-is_kind_placed.false in
+    let timed : IsTimed c.args.problem.now (grouping_of c.args.problem.now c.args.matrix.now) (order_of c.args.problem.now c.args.matrix.now) c.args.cert.now.frames (Ok c.in-Ok.load) =
+    subst (λ l. IsTimed c.args.problem.now l (order_of c.args.problem.now c.args.matrix.now) c.args.cert.now.frames (Ok c.in-Ok.load)) labels
+    (subst (λ o. IsTimed c.args.problem.now c.deref.result.now o c.args.cert.now.frames (Ok c.in-Ok.load)) order
+    (subst (λ ls. IsTimed c.args.problem.now c.deref.result.now (take c.in-Some.frames c.deref-2.result.now) ls (Ok c.in-Ok.load)) c.frames-lines.ensures c.in-Ok.ensures.found)) in
+    subst (IsFound c.args.problem.now c.args.matrix.now c.args.cert.now) (sym (c.answer_with_load.ensures ∙ ap (λ k. answer_with_load k c.in-Ok.load) c.kind-kind.ensures.value))
+    (found_with_load c.args.problem.now c.args.matrix.now c.args.cert.now is other c.in-Some.ensures.placed c.in-Ok.load timed)
+
+pub returns-clause-found : goal.returns-clause-found
+returns-clause-found c =
+    let labels : c.deref.result.now ≡ grouping_of c.args.problem.now c.args.matrix.now = c.deref.ensures.value ∙ whole _ _ _ (omega (arith, c.labels_of.auto.labels, c.deref_mut.ensures.len)) ∙ c.in-Some.ensures.labels in
+    let order : take c.in-Some.frames c.deref-2.result.now ≡ order_of c.args.problem.now c.args.matrix.now = ap (take c.in-Some.frames) (c.deref-2.ensures.value ∙ whole _ _ _ (omega (arith, c.labels_of.auto.order, c.deref_mut-2.ensures.len))) ∙ c.in-Some.ensures.order in
+    let is : is_to_be_placed c.args.cert.now.kind c.args.matrix.now ≡ true = sym (c.is_to_be_placed.ensures ∙ (λ i. is_to_be_placed (c.kind-kind.ensures.value i) (c.rows.ensures.rows i))) ∙ c.if-not-is_to_be_placed.false in
+    let other : is_kind_placed c.args.cert.now.kind ≡ false = sym (c.is_kind_placed.ensures ∙ ap is_kind_placed c.kind-kind.ensures.value) ∙ c.if-is_kind_placed.false in
+    fault_of_lines c.args.problem.now c.args.matrix.now c.args.cert.now is other c.in-Some.ensures.placed c.in-Err.fault
+    (subst (λ l. IsTimed c.args.problem.now l (order_of c.args.problem.now c.args.matrix.now) c.args.cert.now.frames (Err c.in-Err.fault)) labels
+    (subst (λ o. IsTimed c.args.problem.now c.deref.result.now o c.args.cert.now.frames (Err c.in-Err.fault)) order
+    (subst (λ ls. IsTimed c.args.problem.now c.deref.result.now (take c.in-Some.frames c.deref-2.result.now) ls (Err c.in-Err.fault)) c.frames-lines.ensures c.in-Err.ensures.found)))

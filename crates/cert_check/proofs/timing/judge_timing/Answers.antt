@@ -20,12 +20,12 @@ lines_show-requires-clause-bit c =
     (omega (arith, c.from-bit.ensures, ap (λ (n : Network). n.nominal_ticks) network, ap (λ (n : Network). n.data_ticks) network, stands.nominal_low, stands.data_low))
     (omega (arith, c.from-bit.ensures, ap (λ (n : Network). n.nominal_ticks) network, ap (λ (n : Network). n.data_ticks) network, stands.data_high))
 
-pub load_of_frames-load-requires-clause-hyper : goal.load_of_frames-load-requires-clause-hyper
-load_of_frames-load-requires-clause-hyper c = omega (arith, c.hyper.ensures.hyper, (tests c.args.problem.now c.hyper.ensures.problem).hyper_high)
+pub load_of_frames-requires-clause-hyper : goal.load_of_frames-requires-clause-hyper
+load_of_frames-requires-clause-hyper c = omega (arith, c.hyper.ensures.hyper, (tests c.args.problem.now c.hyper.ensures.problem).hyper_high)
 
-pub load_of_frames-load-requires-clause-few : goal.load_of_frames-load-requires-clause-few
-load_of_frames-load-requires-clause-few c =
+pub load_of_frames-requires-clause-few : goal.load_of_frames-requires-clause-few
+load_of_frames-requires-clause-few c =
     few_frames c.args.problem.now c.args.labels.now c.deref-2.result.now c.network.ensures.problem c.requires.grouping (c.deref-2.ensures.value ∙ c.in_ok-frames.ensures.value)
 
-pub load_of_frames-load-requires-clause-in_range : goal.load_of_frames-load-requires-clause-in_range
-load_of_frames-load-requires-clause-in_range c = subst (All IsInRange) (sym c.deref-2.ensures.value) c.in_ok-frames.ensures.in_range
+pub load_of_frames-requires-clause-in_range : goal.load_of_frames-requires-clause-in_range
+load_of_frames-requires-clause-in_range c = subst (All IsInRange) (sym c.deref-2.ensures.value) c.in_ok-frames.ensures.in_range

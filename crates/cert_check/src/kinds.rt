@@ -1,0 +1,54 @@
+//! Which parts are judged of a kind of certificate.
+ghost use Rattle.std.specs.Prelude.{◌≡◌};
+ghost use Rattle.cert_check.specs.Kinds.{FailsWithoutRows, answer_with_load, is_kind_placed, is_to_be_placed};
+
+use crate::fault::CheckFault;
+use bandwidth_bound::Verdict;
+use cert_text::{FrameLine, Kind};
+use matrix_text::MatrixRow;
+
+/// Whether the matrix of the kind is to be placed; else it is to have no rows.
+pub(crate) fn is_to_be_placed(kind: Kind, rows: &[MatrixRow]) -> bool
+    ensures { result ≡ is_to_be_placed kind rows.now }
+{
+    match kind {
+        Kind::KindPlaced | Kind::KindTimed | Kind::KindBest => true,
+        Kind::KindBetween => !rows.is_empty(),
+        Kind::KindNoSolution => false,
+    }
+}
+
+/// Whether the kind is `placed`, whose frames are not judged.
+pub(crate) fn is_kind_placed(kind: Kind) -> bool
+    ensures { result ≡ is_kind_placed kind }
+{
+    match kind {
+        Kind::KindPlaced => true,
+        Kind::KindTimed | Kind::KindBetween | Kind::KindBest | Kind::KindNoSolution => false,
+    }
+}
+
+/// The first part that fails of a certificate whose matrix is to have no rows.
+pub(crate) fn fault_without_rows(rows: &[MatrixRow], lines: &[FrameLine]) -> CheckFault
+    ensures { FailsWithoutRows rows.now lines.now result }
+{
+    if !rows.is_empty() {
+        CheckFault::RejectedMatrix
+    } else if !lines.is_empty() {
+        CheckFault::RejectedTiming
+    } else {
+        CheckFault::RejectedTree
+    }
+}
+
+/// The answer where each frame is shown to pass, with the load of the matrix in ticks a common period.
+pub(crate) fn answer_with_load(kind: Kind, load: u128) -> Result<Verdict, CheckFault>
+    ensures { result ≡ answer_with_load kind load }
+{
+    match kind {
+        Kind::KindTimed => Ok(Verdict::Timed { load }),
+        Kind::KindPlaced | Kind::KindBetween | Kind::KindBest | Kind::KindNoSolution => {
+            Err(CheckFault::RejectedTree)
+        }
+    }
+}
