@@ -1,7 +1,7 @@
 //! Bytes cut at a byte.
 ghost use Rattle.std.specs.Prelude.{◌≡◌, ◌==◌, ◌<◌, ◌∷◌, [], length, IfSome, MatchOption};
 ghost use Rattle.std.specs.List.{position};
-ghost use Rattle.cert_text.specs.Lines.{parts};
+ghost use Rattle.cert_text.specs.CertText.{parts};
 
 fn place_of(bytes: &[u8], byte: u8) -> Option<usize>
     ensures { result ≡ position (λ b. b == byte) bytes.now }

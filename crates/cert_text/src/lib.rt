@@ -1,21 +1,23 @@
-//! The text of a certificate: what it says, read and written exactly.
+//! The text of a certificate: its grammar, read and written exactly.
 //!
-//! The one contract that upper crates use is that [`read_cert`] gives exactly the certificate of a text, or its first
-//! refusal, and that what [`write_cert`] wrote is read back.
+//! The contract that upper crates use is that [`read_cert`] gives exactly the certificate of a text, or why it has none,
+//! and that what was written is read back.
 #![tactic(auto)]
 
+mod builder;
 mod cut;
+mod event;
 mod fault;
+mod hearing;
 mod line;
 mod parts;
+mod position;
 mod reading;
-mod state;
-mod writing;
+mod symbol;
+mod words;
 
+pub use event::Event;
 pub use fault::CertFault;
 pub use parts::{Cert, FrameLine, Kind, Lemma, Refuted, Tree};
 pub use reading::read_cert;
-pub use writing::write_cert;
 
-#[cfg(test)]
-mod tests;
