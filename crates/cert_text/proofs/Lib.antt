@@ -18,3 +18,6 @@ pub mod Exact
 pub mod Short
 pub mod Steps
 pub mod OfText
+pub mod Adds
+pub mod TreeLines
+pub mod Fits

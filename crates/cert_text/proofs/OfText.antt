@@ -40,20 +40,20 @@ some_mapped : {A : Type 0} {B : Type 0} (f : A → B) (o : Option A) → IsSome 
 some_mapped f None h = absurd (let no : false ≡ true = h in cc)
 some_mapped f (Some x) h = refl
 
--- marks change nothing of which parts there are
-pub unmarked_parts : (k : Kind) (frames : List FrameLine) (lemmas : List (LemmaOf Marked)) (tree : Option Marked) → HasParts k frames lemmas tree
-    → HasParts k frames (map unmark_lemma lemmas) (option_map unmark tree)
-unmarked_parts KindPlaced frames lemmas tree has = (has.0, ap (map unmark_lemma) has.1, ap (option_map unmark) has.2)
-unmarked_parts KindTimed frames lemmas tree has = (ap (map unmark_lemma) has.0, ap (option_map unmark) has.1)
-unmarked_parts KindBetween frames lemmas tree has = some_mapped unmark tree has
-unmarked_parts KindBest frames lemmas tree has = some_mapped unmark tree has
-unmarked_parts KindNoSolution frames lemmas tree has = some_mapped unmark tree has
+-- other lemmas and another tree in their places change nothing of which parts there are
+pub mapped_parts : {T : Type 0} {U : Type 0} (f : LemmaOf T → LemmaOf U) (g : T → U) (k : Kind) (frames : List FrameLine) (lemmas : List (LemmaOf T)) (tree : Option T) → HasParts k frames lemmas tree
+    → HasParts k frames (map f lemmas) (option_map g tree)
+mapped_parts f g KindPlaced frames lemmas tree has = (has.0, ap (map f) has.1, ap (option_map g) has.2)
+mapped_parts f g KindTimed frames lemmas tree has = (ap (map f) has.0, ap (option_map g) has.1)
+mapped_parts f g KindBetween frames lemmas tree has = some_mapped g tree has
+mapped_parts f g KindBest frames lemmas tree has = some_mapped g tree has
+mapped_parts f g KindNoSolution frames lemmas tree has = some_mapped g tree has
 
 -- a certificate that a text has, has the parts of its kind
 pub text_parts : (bytes : List ℕ) (cert : CertParts) → CertText bytes cert → HasParts cert.kind cert.frames cert.lemmas cert.main_tree
 text_parts bytes cert c =
     let m = c.marked in
-    subst (λ (x : CertParts). HasParts x.kind x.frames x.lemmas x.main_tree) c.unmarked (unmarked_parts m.kind m.frames m.lemmas m.main_tree c.in_range.stands.parts)
+    subst (λ (x : CertParts). HasParts x.kind x.frames x.lemmas x.main_tree) c.unmarked (mapped_parts unmark_lemma unmark m.kind m.frames m.lemmas m.main_tree c.in_range.stands.parts)
 
 -- so has the certificate that lines make
 pub made_parts : (bytes : List ℕ) (cert : CertParts) → refusal_of bytes ≡ None → value_of bytes ≡ cert → HasParts cert.kind cert.frames cert.lemmas cert.main_tree

@@ -10,14 +10,17 @@ mod event;
 mod fault;
 mod hearing;
 mod line;
+mod lines;
 mod parts;
 mod position;
 mod reading;
 mod symbol;
 mod words;
+mod writing;
 
 pub use event::Event;
 pub use fault::CertFault;
 pub use parts::{Cert, FrameLine, Kind, Lemma, Refuted, Tree};
 pub use reading::read_cert;
+pub use writing::write_cert;
 
