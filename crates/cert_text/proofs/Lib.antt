@@ -21,3 +21,4 @@ pub mod OfText
 pub mod Adds
 pub mod TreeLines
 pub mod Fits
+pub mod Room

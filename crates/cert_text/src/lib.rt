@@ -24,3 +24,6 @@ pub use parts::{Cert, FrameLine, Kind, Lemma, Refuted, Tree};
 pub use reading::read_cert;
 pub use writing::write_cert;
 
+
+#[cfg(test)]
+mod tests;

@@ -1,10 +1,11 @@
 //! Reading a certificate.
-ghost use Rattle.std.specs.Prelude.{◌≡◌, OnOk};
+ghost use Rattle.std.specs.Prelude.{◌≡◌, IfOk, OnOk};
 ghost use Rattle.csv_table.specs.Gives.{Gives};
 ghost use Rattle.cert_text.specs.CertText.{IsAnswer, cert_refusal};
 ghost use Rattle.cert_text.specs.Heard.{made_onto};
 ghost use Rattle.cert_text.specs.MadeBy.{made_by};
 ghost use Rattle.cert_text.specs.Reading.{cert_of_text};
+ghost use Rattle.cert_text.specs.Written.{CertFits};
 
 use crate::builder::Builder;
 use crate::cut::cut_at;
@@ -72,6 +73,8 @@ pub fn read_cert(alloc: Global, bytes: &[u8]) -> Result<Cert, CertFault>
     ensures exact { Gives (λ cert. cert) cert_refusal result (cert_of_text bytes.now) }
     // And that is the certificate of the text, or why it has none.
     ensures answer { IsAnswer bytes.now (cert_of_text bytes.now) }
+    // It can be written again.
+    ensures fits { IfOk result CertFits }
 {
     read_lines(alloc, bytes)
 }
