@@ -13,7 +13,7 @@ use Rattle.cert_text.specs.declared.line.Line.TheVariants as line
 use Rattle.cert_text.specs.Lines.{ended, line_text, line_words, text_of}
 use Rattle.cert_text.specs.Adding.{Adds, HasNumbersOfTypes, numbers_text}
 use Rattle.cert_text.proofs.Texts.{text_append}
-use Rattle.cert_text.proofs.Whole.{all_append}
+use Rattle.cert_text.proofs.Cuts.{all_append}
 
 -- nothing was added
 pub adds-none : (before now : List ℕ) → now ≡ before → Adds before now []
@@ -48,6 +48,7 @@ joined : (w : List ℕ) (ws : List (List ℕ)) → join_with_byte 32 (w ∷ ws) 
 joined w [] = sym (append-nil w)
 joined w (x ∷ ws) = ap (λ y. w ++ 32 ∷ y) (joined x ws)
 
+-- numbers as words, each after a space
 spaced : (ns : List ℕ) → flat_map (λ x. 32 ∷ x) (map decimal ns) ≡ numbers_text ns
 spaced ns = flat_map-map (λ x. 32 ∷ x) decimal ns
 

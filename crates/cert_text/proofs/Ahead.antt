@@ -17,6 +17,7 @@ use Rattle.cert_text.specs.Lines.{against, lines_of}
 use Rattle.cert_text.specs.Grammar.{expand}
 use Rattle.cert_text.proofs.Fills.{Body, Fills, Trees, Value, Values, body_said, children, frames_said, pieces, spell, spell_all, three, trees_said, two}
 
+-- a first line that a piece can begin with, and what fills the pieces that are then to come
 pub record Ahead (s : Symbol) (ss : List Symbol) (ls : List Line) : Type 0 where
   pub line : Line
   pub rest : List Line
@@ -90,6 +91,7 @@ parts_ahead (l ∷ lemmas) main stand main_stands ss vs =
     let a = trees_ahead (l ∷ lemmas) main stand main_stands ss vs in
     record { line = a.line; rest = a.rest; next = a.next; is = a.is; expands = a.expands; fills = a.fills }
 
+-- what fills pieces begins with such a line
 pub forward : (s : Symbol) (x : Value s) (ss : List Symbol) (vs : Values ss) → Ahead s ss (spell s x ++ spell_all ss vs)
 forward symbol.First x ss vs = record { line = line.FirstLine; rest = spell_all ss vs; next = []; is = refl; expands = refl; fills = record { values = vs; lines = refl } }
 forward symbol.FromKind x ss vs = of_kind x.0 x.1

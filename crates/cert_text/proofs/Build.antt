@@ -12,6 +12,7 @@ use Rattle.cert_text.specs.PlainTree.{onto}
 use Rattle.cert_text.specs.CertEvents.{cert_events, lemma_events, main_events, tree_events, trees_events}
 use Rattle.cert_text.specs.Making.{Made, OpenNode, cert_made, made, make, nothing_made, put_tree, with_tree}
 
+-- a tree more at the end
 pub onto_push : (ts : List Plain) (t : Plain) (ps : Plains) → onto (ts ++ t ∷ []) ps ≡ onto ts (more t ps)
 onto_push [] t ps = refl
 onto_push (x ∷ ts) t ps = ap (more x) (onto_push ts t ps)
@@ -20,6 +21,7 @@ onto_push (x ∷ ts) t ps = ap (more x) (onto_push ts t ps)
 abbrev pub with_nodes : List OpenNode → Made → Made
 with_nodes nodes m = record { kind = m.kind; frames = m.frames; lemmas = m.lemmas; goal = m.goal; nodes = nodes; main = m.main }
 
+-- the open nodes that are put into are those that are given
 pub put_tree-nodes : (nodes other : List OpenNode) (t : Plain) (m : Made) → put_tree t nodes (with_nodes other m) ≡ put_tree t nodes m
 put_tree-nodes [] other t m = by m.goal
   where
@@ -29,6 +31,7 @@ put_tree-nodes [] other t m = by m.goal
 put_tree-nodes ((zero, ts) ∷ nodes) other t m = put_tree-nodes nodes other (inner (onto ts (more t none))) m
 put_tree-nodes ((suc n, ts) ∷ nodes) other t m = refl
 
+-- no trees
 none_of : (ts : Markeds) → count ts ≡ zero → ts ≡ m_none
 none_of m_none e = refl
 none_of (m_more t ts) e = cc
@@ -36,6 +39,7 @@ none_of (m_more t ts) e = cc
 mutual
   unfolding tree_events made
 
+  -- a tree's events put it where a tree is lacking
   made-tree : (t : Marked) (m : Made) (es : List Event) → made m (tree_events t ++ es) ≡ made (put_tree (unmark t) m.nodes m) es
   made-tree (m_inner ts) m es = by (count ts) refl (λ n e. made-trees ts n [] m.nodes m es e)
     where
@@ -68,6 +72,7 @@ mutual
 
 -- ---- the parts of a certificate
 
+-- the events of frames' lines add them
 made_frames : (fs : List FrameLine) (m : Made) (es : List Event)
     → made m (map event.FrameOf fs ++ es) ≡ made (record { kind = m.kind; frames = m.frames ++ fs; lemmas = m.lemmas; goal = m.goal; nodes = m.nodes; main = m.main }) es
 unfolding made
@@ -84,6 +89,7 @@ record After (k : Kind) (fs : List FrameLine) (ls : List (LemmaOf Plain)) (g : O
   last : Option (ℕ × ℕ)
   is : made (between k fs ls g) all ≡ made (between k fs ls last) es
 
+-- the events of lemmas add them
 made_lemmas : (lemmas : List (LemmaOf Marked)) (k : Kind) (fs : List FrameLine) (before : List (LemmaOf Plain)) (g : Option (ℕ × ℕ)) (es : List Event)
     → (last : Option (ℕ × ℕ)) × (made (between k fs before g) (flat_map lemma_events lemmas ++ es) ≡ made (between k fs (before ++ map unmark_lemma lemmas) last) es)
 unfolding made
@@ -98,6 +104,7 @@ made_lemmas (l ∷ lemmas) k fs before g es =
           ∙ ap (λ ls. made (between k fs ls rest.0) es) (append_assoc before (unmark_lemma l ∷ []) (map unmark_lemma lemmas)),
     )
 
+-- the events of a main tree and the end make it the main tree
 made_main : (main : Option Marked) (k : Kind) (fs : List FrameLine) (ls : List (LemmaOf Plain)) (g : Option (ℕ × ℕ))
     → cert_made (made (between k fs ls g) (main_events main ++ event.Finish ∷ [])) ≡ record { kind = k; frames = fs; lemmas = ls; main_tree = option_map unmark main }
 unfolding made

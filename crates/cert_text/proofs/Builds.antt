@@ -11,10 +11,12 @@ use Rattle.cert_text.specs.MadeBy.{nodes_of}
 use Rattle.cert_text.proofs.Build.{onto_push, put_tree-nodes, with_nodes}
 use Rattle.cert_text.proofs.Trees.{nodes_push, plain-Inner}
 
+-- the plain trees of one tree more
 mapped : (ts : List Tree) (t : Tree) (all : List Tree) → all ≡ ts ++ t ∷ [] → map plain_of all ≡ map plain_of ts ++ plain_of t ∷ []
 mapped [] t all e = ap (map plain_of) e
 mapped (x ∷ ts) t all e = ap (map plain_of) e ∙ ap (λ ys. plain_of x ∷ ys) (mapped ts t (ts ++ t ∷ []) refl)
 
+-- no open nodes
 pub no_nodes : (xs : List Unfinished) → length xs ≡ 0 → nodes_of xs ≡ []
 unfolding nodes_of
 no_nodes [] e = refl

@@ -8,11 +8,13 @@ use Rattle.cert_text.specs.declared.line.Line.TheVariants as line
 use Rattle.cert_text.specs.Lines.{against, lines_of}
 use Rattle.cert_text.specs.Heard.{collect, silent}
 
+-- further lines of evidence are heard as one fail leaf
 collect_seen : (x : ℕ × Evidence) (es seen : List (ℕ × Evidence)) (ls : List Line) → collect (length es, seen) (map against (x ∷ es) ++ ls) ≡ event.FailLeaf (seen ++ x ∷ es) ∷ collect silent ls
 unfolding collect
 collect_seen x [] seen ls = refl
 collect_seen x (y ∷ es) seen ls = collect_seen y es (seen ++ x ∷ []) ls ∙ ap (λ zs. event.FailLeaf zs ∷ collect silent ls) (append_assoc seen (x ∷ []) (y ∷ es))
 
+-- the lines of a fail leaf are heard as it
 collect_fail : (es : List (ℕ × Evidence)) (ls : List Line) → collect silent (line.FailLine (length es) ∷ (map against es ++ ls)) ≡ event.FailLeaf es ∷ collect silent ls
 unfolding collect
 collect_fail [] ls = refl

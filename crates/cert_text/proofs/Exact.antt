@@ -18,6 +18,7 @@ use Rattle.cert_text.proofs.Read.{line_of-text}
 use Rattle.cert_text.proofs.Refusals.{Answer, refusal-answer}
 use Rattle.cert_text.proofs.Texts.{cert-lead, cert-lines, lines_and_rest}
 
+-- lines in range are said by their bytes
 lines_back : (ls : List Line) → AllByRecursion LineInRange ls → lines_said (map line_text ls) ≡ ls
 unfolding lines_said
 lines_back [] small = refl
@@ -38,15 +39,18 @@ cert-unique bytes a b x y = sym (cert-value bytes a x) ∙ cert-value bytes b y
 
 -- ---- one answer
 
+-- the bytes of lines are joined as they are
 ends_append : (a b : List (List ℕ)) → with_ends (a ++ b) ≡ with_ends a ++ with_ends b
 ends_append [] b = refl
 ends_append (x ∷ a) b = ap (λ y. ended x ++ y) (ends_append a b) ∙ sym (append_assoc (ended x) (with_ends a) (with_ends b))
 
+-- a front and the rest are the whole
 split : (n : ℕ) (xs : List (List ℕ)) → xs ≡ take n xs ++ drop n xs
 split zero xs = refl
 split (suc n) [] = refl
 split (suc n) (x ∷ xs) = ap (λ ys. x ∷ ys) (split n xs)
 
+-- a shorter front begins a longer one
 fewer : (n m : ℕ) (xs : List (List ℕ)) → n ≤ m → (rest : List (List ℕ)) × (take m xs ≡ take n xs ++ rest)
 fewer zero m xs le = (take m xs, refl)
 fewer (suc n) zero xs le = absurd (omega arith)
@@ -64,6 +68,7 @@ begins_fewer n m xs le b =
       text = b.text ∙ ap (λ x. with_ends x ++ b.rest) f.1 ∙ ap (λ x. x ++ b.rest) (ends_append (take n xs) f.0) ∙ append_assoc (with_ends (take n xs)) (with_ends f.0) b.rest;
     }
 
+-- fewer lines begin what all lines and more bytes begin
 begins_all : (n : ℕ) (xs : List (List ℕ)) (rest : List ℕ) → BeginsText (with_ends xs ++ rest) → BeginsText (with_ends (take n xs))
 begins_all n xs rest b = record {
   marked = b.marked;
@@ -73,6 +78,7 @@ begins_all n xs rest b = record {
       ∙ append_assoc (with_ends (take n xs)) (with_ends (drop n xs)) (rest ++ b.rest);
 }
 
+-- a certificate's text begins one
 text_begins : (bytes : List ℕ) (cert : CertOf Plain) → CertText bytes cert → BeginsText bytes
 text_begins bytes cert c = record { marked = c.marked; rest = []; in_range = c.in_range; text = c.text ∙ sym (append-nil bytes) }
 
@@ -85,6 +91,7 @@ bad_no_cert bytes n cert b c = by b.bad
     by (inl x) = x.1 (begins_all n (ended_lines bytes) (unfinished bytes) (subst BeginsText (lines_and_rest bytes) (text_begins bytes cert c)))
     by (inr x) = x.2 (cert-lead bytes cert c).1
 
+-- a bad line is no cut
 bad_no_cut : (bytes : List ℕ) (n : ℕ) → IsBadLine bytes n → IsCut bytes → ⊥
 bad_no_cut bytes n b c = by b.bad
   where
@@ -93,11 +100,13 @@ bad_no_cut bytes n b c = by b.bad
     by (inl x) = x.1 (begins_all n (ended_lines bytes) [] (subst BeginsText (sym (append-nil (with_ends (ended_lines bytes)))) c.stand))
     by (inr x) = c.not_whole x.1.0 x.1.1
 
+-- a text that is cut has no certificate
 cut_no_cert : (bytes : List ℕ) (cert : CertOf Plain) → IsCut bytes → CertText bytes cert → ⊥
 cut_no_cert bytes cert c t =
     let whole : with_ends (ended_lines bytes) ≡ bytes = sym (lines_and_rest bytes ∙ ap (λ x. with_ends (ended_lines bytes) ++ x) (cert-lead bytes cert t).1 ∙ append-nil (with_ends (ended_lines bytes))) in
     c.not_whole cert (subst (λ x. CertText x cert) (sym whole) t)
 
+-- of two bad lines neither is before the other
 not_before : (bytes : List ℕ) (n m : ℕ) → IsBadLine bytes n → IsBadLine bytes m → n < m → ⊥
 not_before bytes n m a b lt = by a.bad b.bad
   where

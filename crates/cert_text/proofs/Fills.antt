@@ -37,6 +37,7 @@ Body KindBetween = List FrameLine × Trees
 Body KindBest = List FrameLine × Trees
 Body KindNoSolution = List FrameLine × Trees
 
+-- what a piece can be
 abbrev pub Value : Symbol → Type 0
 Value symbol.First = ⊤
 Value symbol.FromKind = (k : Kind) × Body k
@@ -48,12 +49,15 @@ Value symbol.Against = ℕ × Evidence
 Value symbol.Join = ⊤
 Value symbol.End = ⊤
 
+-- what lemmas and a main tree say
 abbrev pub trees_said : Trees → List Event
 trees_said x = flat_map lemma_events x.lemmas ++ (event.Main ∷ (tree_events x.main ++ event.Finish ∷ []))
 
+-- what frames' lines and more say
 abbrev pub frames_said : List FrameLine → List Event → List Event
 frames_said fs es = map event.FrameOf fs ++ es
 
+-- what follows the line of a kind says
 abbrev pub body_said : (k : Kind) → Body k → List Event
 body_said KindPlaced x = event.Finish ∷ []
 body_said KindTimed fs = frames_said fs (event.Finish ∷ [])
@@ -61,6 +65,7 @@ body_said KindBetween x = frames_said x.0 (trees_said x.1)
 body_said KindBest x = frames_said x.0 (trees_said x.1)
 body_said KindNoSolution x = frames_said x.0 (trees_said x.1)
 
+-- the lines of a piece
 abbrev pub spell : (s : Symbol) → Value s → List Line
 spell symbol.First x = line.FirstLine ∷ []
 spell symbol.FromKind x = line.KindLine x.0 ∷ lines_of (body_said x.0 x.1)
@@ -72,10 +77,12 @@ spell symbol.Against x = against x ∷ []
 spell symbol.Join x = line.JoinLine ∷ []
 spell symbol.End x = line.EndLine ∷ []
 
+-- what pieces can be
 abbrev pub Values : List Symbol → Type 0
 Values [] = ⊤
 Values (s ∷ ss) = Value s × Values ss
 
+-- the lines of pieces
 abbrev pub spell_all : (ss : List Symbol) → Values ss → List Line
 spell_all [] x = []
 spell_all (s ∷ ss) x = spell s x.0 ++ spell_all ss x.1
@@ -85,24 +92,29 @@ pub record Fills (ss : List Symbol) (ls : List Line) : Type 0 where
   pub values : Values ss
   pub lines : spell_all ss values ≡ ls
 
+-- the lines fill the pieces, and there are such
 abbrev pub FillsSome : Option (List Symbol) → List Line → Type 0
 FillsSome None ls = ⊥
 FillsSome (Some ss) ls = Fills ss ls
 
 -- ---- joined lines
 
+-- the lines of joined events
 pub lines_append : (a b : List Event) → lines_of (a ++ b) ≡ lines_of a ++ lines_of b
 lines_append [] b = refl
 lines_append (e ∷ a) b = ap (λ ls. event_lines e ++ ls) (lines_append a b) ∙ sym (append_assoc (event_lines e) (lines_of a) (lines_of b))
 
+-- the lines of two lists of events and more
 pub two : (a b : List Event) (ls : List Line) → lines_of a ++ (lines_of b ++ ls) ≡ lines_of (a ++ b) ++ ls
 two a b ls = sym (append_assoc (lines_of a) (lines_of b) ls) ∙ ap (λ x. x ++ ls) (sym (lines_append a b))
 
+-- the lines of three lists of events and more
 pub three : (a b c : List Event) (ls : List Line) → lines_of a ++ (lines_of (b ++ c) ++ ls) ≡ lines_of ((a ++ b) ++ c) ++ ls
 three a b c ls = two a (b ++ c) ls ∙ ap (λ es. lines_of es ++ ls) (sym (append_assoc a b c))
 
 -- ---- subtrees and lines of evidence
 
+-- trees that stand fill as many pieces
 pub children : (marks : Bool) (depth : ℕ) (ts : Markeds) → AllStand marks depth ts → (ss : List Symbol) (vs : Values ss)
     → Fills (replicate (count ts) (symbol.TreeAt marks depth) ++ ss) (lines_of (trees_events ts) ++ spell_all ss vs)
 unfolding AllStand trees_events
@@ -114,6 +126,7 @@ children marks depth (m_more t ts) stand ss vs =
       lines = ap (λ ls. lines_of (tree_events t) ++ ls) others.lines ∙ two (tree_events t) (trees_events ts) (spell_all ss vs);
     }
 
+-- pieces of evidence fill as many
 pub pieces : (es : List (ℕ × Evidence)) (ss : List Symbol) (vs : Values ss) → Fills (replicate (length es) symbol.Against ++ ss) (map against es ++ spell_all ss vs)
 pieces [] ss vs = record { values = vs; lines = refl }
 pieces (e ∷ es) ss vs =
@@ -128,6 +141,7 @@ record Gathered (marks : Bool) (depth n : ℕ) (ss : List Symbol) (ls : List Lin
   rest : Values ss
   lines : lines_of (trees_events trees) ++ spell_all ss rest ≡ ls
 
+-- what fills trees to come is trees that stand
 gathered : (marks : Bool) (depth n : ℕ) (ss : List Symbol) (vs : Values (replicate n (symbol.TreeAt marks depth) ++ ss))
     → Gathered marks depth n ss (spell_all (replicate n (symbol.TreeAt marks depth) ++ ss) vs)
 unfolding AllStand trees_events
@@ -142,12 +156,14 @@ gathered marks depth (suc n) ss vs =
       lines = sym (two (tree_events vs.0.0) (trees_events others.trees) (spell_all ss others.rest)) ∙ ap (λ ls. lines_of (tree_events vs.0.0) ++ ls) others.lines;
     }
 
+-- pieces of evidence, and lines after them
 record Heard (n : ℕ) (ss : List Symbol) (ls : List Line) : Type 0 where
   items : List (ℕ × Evidence)
   counted : length items ≡ n
   rest : Values ss
   lines : map against items ++ spell_all ss rest ≡ ls
 
+-- what fills evidence to come is pieces of evidence
 heard : (n : ℕ) (ss : List Symbol) (vs : Values (replicate n symbol.Against ++ ss)) → Heard n ss (spell_all (replicate n symbol.Against ++ ss) vs)
 heard zero ss vs = record { items = []; counted = refl; rest = vs; lines = refl }
 heard (suc n) ss vs =
@@ -156,6 +172,7 @@ heard (suc n) ss vs =
 
 -- ---- one line more: what fills the pieces after a line fills, with the line before it, those before
 
+-- an inner node before its subtrees
 inner_back : (marks : Bool) (depth n : ℕ) (ss : List Symbol) (ls : List Line) → depth < 128 → Fills (replicate n (symbol.TreeAt marks (suc depth)) ++ ss) ls
     → Fills (symbol.TreeAt marks depth ∷ ss) (line.InnerLine n ∷ ls)
 unfolding Stands tree_events
@@ -166,12 +183,14 @@ inner_back marks depth n ss ls small f =
       lines = ap (λ k. line.InnerLine k ∷ (lines_of (trees_events g.trees) ++ spell_all ss g.rest)) g.counted ∙ ap (λ x. line.InnerLine n ∷ x) (g.lines ∙ f.lines);
     }
 
+-- an inner node, where it may stand
 inner_back_if : (marks : Bool) (depth n : ℕ) (ss : List Symbol) (ls : List Line) (b : Bool) → nat_lt depth 128 ≡ b
     → FillsSome (option_map (λ more. more ++ ss) (cond b (Some (replicate n (symbol.TreeAt marks (suc depth)))) None)) ls
     → Fills (symbol.TreeAt marks depth ∷ ss) (line.InnerLine n ∷ ls)
 inner_back_if marks depth n ss ls true e f = inner_back marks depth n ss ls (ltb-true depth 128 e) f
 inner_back_if marks depth n ss ls false e f = absurd f
 
+-- a fail leaf before its evidence
 fail_back : (marks : Bool) (depth n : ℕ) (ss : List Symbol) (ls : List Line) → Fills (replicate n symbol.Against ++ ss) ls → Fills (symbol.TreeAt marks depth ∷ ss) (line.FailLine n ∷ ls)
 unfolding Stands tree_events
 fail_back marks depth n ss ls f =
@@ -182,6 +201,7 @@ fail_back marks depth n ss ls f =
       lines = ap (λ k. line.FailLine k ∷ ((map against h.items ++ []) ++ spell_all ss h.rest)) h.counted ∙ ap (λ x. line.FailLine n ∷ x) (flat ∙ h.lines ∙ f.lines);
     }
 
+-- a lemma before further ones
 lemma_back : (sender value : ℕ) (ss : List Symbol) (ls : List Line) → Fills (symbol.TreeAt true zero ∷ symbol.Lemmas ∷ ss) ls → Fills (symbol.Lemmas ∷ ss) (line.LemmaWords sender value ∷ ls)
 lemma_back sender value ss ls f =
     let t = f.values.0.0 in
@@ -192,6 +212,7 @@ lemma_back sender value ss ls f =
           (sym (three (tree_events t) (flat_map lemma_events x.lemmas) (event.Main ∷ (tree_events x.main ++ event.Finish ∷ [])) (spell_all ss f.values.1.1)) ∙ f.lines);
     }
 
+-- the main tree before the end
 main_back : (ss : List Symbol) (ls : List Line) → Fills (symbol.TreeAt true zero ∷ symbol.End ∷ ss) ls → Fills (symbol.Lemmas ∷ ss) (line.MainLine ∷ ls)
 main_back ss ls f =
     let t = f.values.0.0 in
@@ -200,6 +221,7 @@ main_back ss ls f =
       lines = ap (λ x. line.MainLine ∷ x) (sym (two (tree_events t) (event.Finish ∷ []) (spell_all ss f.values.1.1)) ∙ f.lines);
     }
 
+-- what fills the pieces after a line fills, with the line before it, those before
 pub backward : (s : Symbol) (l : Line) (ss : List Symbol) (ls : List Line) → FillsSome (after (s ∷ ss) l) ls → Fills (s ∷ ss) (l ∷ ls)
 unfolding Stands tree_events
 backward symbol.First line.FirstLine ss ls f = record { values = (tt, f.values); lines = ap (λ x. line.FirstLine ∷ x) f.lines }

@@ -50,6 +50,7 @@ filled_none (s ∷ ss) f =
     let a = forward s f.values.0 ss f.values.1 in
     absurd (let e : [] ≡ a.line ∷ a.rest = sym f.lines ∙ a.is in cc)
 
+-- no lines fill no pieces
 pub none_filled : Fills [] []
 none_filled = record { values = tt; lines = refl }
 
@@ -59,6 +60,7 @@ fills-run ss ls f =
     let l = leads_on ls ss [] (subst (Fills ss) (sym (append-nil _)) f) in
     l.runs ∙ ap (λ x. Some x) (filled_none l.next l.fills)
 
+-- lines that lead to the end fill the pieces
 pub run-fills : (ss : List Symbol) (ls : List Line) → run ss ls ≡ Some [] → Fills ss ls
 run-fills ss ls e = subst (Fills ss) (append-nil _) (leads_back ls ss [] [] e none_filled)
 

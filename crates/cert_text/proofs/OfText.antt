@@ -36,6 +36,7 @@ of_text-answer bytes = by (refusal_of bytes) (refusal-answer bytes)
 pub of_text-cert : (bytes : List ℕ) (cert : CertParts) → CertText bytes cert → cert_of_text bytes ≡ Ok cert
 of_text-cert bytes cert c = of_text-whole bytes cert (refusal-exact bytes None (cert, c)) (cert-value bytes cert c)
 
+-- what is there is there after a function
 some_mapped : {A : Type 0} {B : Type 0} (f : A → B) (o : Option A) → IsSome o → IsSome (option_map f o)
 some_mapped f None h = absurd (let no : false ≡ true = h in cc)
 some_mapped f (Some x) h = refl

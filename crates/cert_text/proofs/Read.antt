@@ -15,21 +15,25 @@ use Rattle.cert_text.specs.declared.line.Line.TheVariants as line
 use Rattle.cert_text.specs.CertText.{parts}
 use Rattle.cert_text.specs.Lines.{AreNumbers, EvidenceInRange, LineInRange, evidence_words, kind_name, line_text, line_words}
 use Rattle.cert_text.specs.Words.{before_slash, line_of, number_of, numbers_of, some_numbers, words_said}
-use Rattle.cert_text.proofs.Cuts.{digits_free, free, joined_free, parts_joined}
+use Rattle.cert_text.proofs.Cuts.{all_append, digits_free, free, joined_free, parts_joined}
 use Rattle.cert_text.proofs.Wide.{digits_of_decimal, wide_back}
 
 -- ---- numbers
 
+-- a number is said by its decimal
 number_back : (n : ℕ) → n < 2 ^ 64 → number_of (decimal n) ≡ Some n
 number_back n small = decimal_of-decimal 0 18446744073709551615 n (omega arith) (omega arith) (omega arith)
 
+-- so are numbers
 numbers_back : (ns : List ℕ) → AreNumbers ns → numbers_of (map decimal ns) ≡ Some ns
 numbers_back [] small = refl
 numbers_back (n ∷ ns) small = rw (number_back n small.0, numbers_back ns small.1) refl
 
+-- so are numbers of which there is one at least
 some_back : (ns : List ℕ) → 1 ≤ length ns → AreNumbers ns → some_numbers (map decimal ns) ≡ Some ns
 some_back ns some small = rw (length-map, le-leb _ _ some) (numbers_back ns small)
 
+-- a number is no slash
 not_slash : (n : ℕ) → n < 2 ^ 64 → bytes_eq (decimal n) (codes "/") ≡ false
 not_slash n small = by (bytes_eq (decimal n) (codes "/")) refl
   where
@@ -40,12 +44,14 @@ not_slash n small = by (bytes_eq (decimal n) (codes "/")) refl
         let none : None ≡ Some n = ap number_of (sym same) ∙ number_back n small in
         absurd (cc (none))
 
+-- numbers before a slash
 slash_back : (b w : List ℕ) → AreNumbers b → before_slash (map decimal b ++ (codes "/" ∷ map decimal w)) ≡ Some (b, map decimal w)
 slash_back [] w small = refl
 slash_back (n ∷ b) w small = rw (not_slash n small.0, number_back n small.0, slash_back b w small.1) refl
 
 -- ---- each line
 
+-- the words of evidence say it
 evidence_back : (label : ℕ) (e : Evidence) → label ≤ 127 → EvidenceInRange e → words_said (evidence_words label e) ≡ Some (line.AgainstLine label e)
 evidence_back label evidence.Over small range = rw (decimal_of-decimal 0 127 label (omega arith) (omega arith) small) refl
 evidence_back label (evidence.Long b) small range = rw (decimal_of-decimal 0 127 label (omega arith) (omega arith) small, some_back b range.0 range.1) refl
@@ -57,6 +63,7 @@ frame_back : (busy : ℕ) (queue : List ℕ) → busy < 2 ^ 64 → 1 ≤ length 
     → words_said (codes "frame" ∷ map decimal (busy ∷ queue)) ≡ Some (line.FrameWords (record { busy = busy; queue = queue }))
 frame_back busy queue b some few small = rw (number_back busy b, some_back queue some small, le-leb _ _ few) refl
 
+-- the words of a line in range say it
 words_back : (l : Line) → LineInRange l → words_said (line_words l) ≡ Some l
 unfolding line_words
 words_back line.FirstLine range = refl
@@ -79,19 +86,18 @@ words_back line.EndLine range = refl
 
 -- ---- no space and no line's end in a word
 
+-- the word is without the byte
 abbrev Clean : ℕ → List ℕ → Type 0
 Clean byte w = free byte w ≡ true
 
+-- a decimal is without a byte below its digits
 decimal_clean : (byte n : ℕ) → byte < 47 → n < 2 ^ 128 → Clean byte (decimal n)
 decimal_clean byte n low small = digits_free byte (decimal n) (omega arith) (digits_of_decimal n small)
 
+-- so are decimals
 numbers_clean : (byte : ℕ) (ns : List ℕ) → byte < 47 → AreNumbers ns → AllByRecursion (Clean byte) (map decimal ns)
 numbers_clean byte [] low small = tt
 numbers_clean byte (n ∷ ns) low small = (decimal_clean byte n low (omega (arith, small.0)), numbers_clean byte ns low small.1)
-
-all_append : {X : Type 0} (P : X → Type 0) (xs ys : List X) → AllByRecursion P xs → AllByRecursion P ys → AllByRecursion P (xs ++ ys)
-all_append P [] ys a b = b
-all_append P (x ∷ xs) ys a b = (a.0, all_append P xs ys a.1 b)
 
 -- the words that stand in lines besides numbers are without the byte
 record Names (byte : ℕ) : Type 0 where
@@ -119,6 +125,7 @@ record Names (byte : ℕ) : Type 0 where
   join : Clean byte (codes "join")
   end : Clean byte (codes "end")
 
+-- no word has a space
 no_space : Names 32
 no_space = record {
   canpack = refl;
@@ -146,6 +153,7 @@ no_space = record {
   end = refl;
 }
 
+-- no word has a line's end
 no_end : Names 10
 no_end = record {
   canpack = refl;
@@ -173,6 +181,7 @@ no_end = record {
   end = refl;
 }
 
+-- nor has the name of a kind
 kind_clean : (byte : ℕ) → Names byte → (k : Kind) → Clean byte (kind_name k)
 kind_clean byte names KindPlaced = names.placed
 kind_clean byte names KindTimed = names.timed
@@ -180,6 +189,7 @@ kind_clean byte names KindBetween = names.between
 kind_clean byte names KindBest = names.best
 kind_clean byte names KindNoSolution = names.none
 
+-- nor have the words of evidence
 evidence_clean : (byte label : ℕ) (e : Evidence) → byte < 47 → Names byte → label ≤ 127 → EvidenceInRange e → AllByRecursion (Clean byte) (evidence_words label e)
 evidence_clean byte label evidence.Over low names small range = (names.over, (decimal_clean byte label low (omega arith), tt))
 evidence_clean byte label (evidence.Long b) low names small range = (names.long, (decimal_clean byte label low (omega arith), numbers_clean byte b low range.1))
@@ -194,6 +204,7 @@ evidence_clean byte label (evidence.Late q b w) low names small range = (
   ),
 )
 
+-- nor have the words of a line
 words_clean : (byte : ℕ) (l : Line) → byte < 47 → Names byte → LineInRange l → AllByRecursion (Clean byte) (line_words l)
 unfolding line_words
 words_clean byte line.FirstLine low names range = (names.canpack, (names.certificate, (names.first, tt)))
@@ -210,6 +221,7 @@ words_clean byte line.ShardLine low names range = (names.shard, tt)
 words_clean byte line.JoinLine low names range = (names.join, tt)
 words_clean byte line.EndLine low names range = (names.end, tt)
 
+-- words that say a line are cut as they were
 cut_back : (ws : List (List ℕ)) (l : Line) → AllByRecursion (Clean 32) ws → words_said ws ≡ Some l → parts 32 (join_with_byte 32 ws) ≡ ws
 cut_back [] l clean e = absurd (let none : None ≡ Some l = e in cc)
 cut_back (w ∷ ws) l clean e = parts_joined 32 w ws clean
@@ -221,6 +233,7 @@ line_of-text l range =
     let back = words_back l range in
     ap words_said (cut_back (line_words l) l (words_clean 32 l (omega arith) no_space range) back) ∙ back
 
+-- words without a line's end, joined by spaces, are without it
 free_joined : (ws : List (List ℕ)) → AllByRecursion (Clean 10) ws → free 10 (join_with_byte 32 ws) ≡ true
 free_joined [] clean = refl
 free_joined (w ∷ ws) clean = joined_free 10 32 w ws refl clean

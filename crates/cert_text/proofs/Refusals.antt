@@ -1,5 +1,6 @@
 -- The first refusal is that of the user's words.
 use Rattle.std.proofs.Common.{◌≡◌, ◌+◌, ◌-◌, ℕ, suc, List, [], ◌∷◌, ◌++◌, length, take, Option, Some, None, refl, sym, ap, subst, ◌∙◌, arith, inl, inr, append_assoc, append-nil, length-append}
+use Rattle.std.proofs.Math.Seq.{take-append_seam}
 use Rattle.std.specs.Option.{option_and_then}
 use Rattle.cert_text.specs.declared.symbol.Symbol.{Symbol}
 use Rattle.cert_text.specs.Parts.{CertParts}
@@ -14,10 +15,6 @@ abbrev pub Answer : List ℕ → Option CertRefusal → Type 0
 Answer bytes None = (cert : CertParts) × CertText bytes cert
 Answer bytes (Some (bad_line n)) = IsBadLine bytes n
 Answer bytes (Some cut) = IsCut bytes
-
-take_front : (xs ys : List (List ℕ)) → take (length xs) (xs ++ ys) ≡ xs
-take_front [] ys = refl
-take_front (x ∷ xs) ys = ap (λ zs. x ∷ zs) (take_front xs ys)
 
 -- one line more
 lead_more : (ss next : List Symbol) (before : List (List ℕ)) (b : List ℕ) → lead ss before ≡ Some next → lead ss (before ++ b ∷ []) ≡ option_and_then (λ l. after next l) (line_of b)
@@ -34,9 +31,11 @@ lead_more ss next (a ∷ before) b e = by (option_and_then (λ l. after ss l) (l
     by None further e = absurd (let none : None ≡ Some next = e in cc)
     by (Some x) further e = further x e
 
+-- the ended lines of ended lines are they
 own_lines : (bytes : List ℕ) → ended_lines (with_ends (ended_lines bytes)) ≡ ended_lines bytes
 own_lines bytes = ap ended_lines (sym (append-nil (with_ends (ended_lines bytes)))) ∙ ended_lines-of (ended_lines bytes) [] (ended_free bytes) refl
 
+-- lines that are a certificate lead to the end
 whole_only : (bytes : List ℕ) (ss : List Symbol) (cert : CertParts) → lead start (ended_lines bytes) ≡ Some ss → CertText (with_ends (ended_lines bytes)) cert → ss ≡ []
 whole_only bytes ss cert e c =
     let l = cert-lead (with_ends (ended_lines bytes)) cert c in
@@ -51,7 +50,7 @@ ends bytes [] [] n e at none =
     (c.0, subst (λ x. CertText x c.0) whole c.1)
 ends bytes (b ∷ rest) [] n e at some =
     let all : take (n - 1) (ended_lines bytes) ≡ ended_lines bytes =
-    (let same : n - 1 ≡ length (ended_lines bytes) = omega arith in rw same (ap (take (length (ended_lines bytes))) (sym (append-nil (ended_lines bytes))) ∙ take_front (ended_lines bytes) [])) in
+    (let same : n - 1 ≡ length (ended_lines bytes) = omega arith in rw same (ap (take (length (ended_lines bytes))) (sym (append-nil (ended_lines bytes))) ∙ take-append_seam (ended_lines bytes) [])) in
     record {
       some = omega arith;
       before = subst (λ x. BeginsText (with_ends x)) (sym all) (lead-begins (ended_lines bytes) [] e);
@@ -62,17 +61,19 @@ ends bytes rest (s ∷ ss) n e at is = record {
   not_whole = λ cert c. let h = whole_only bytes (s ∷ ss) cert e c in cc;
 }
 
+-- a front of lines
 ends_front : (xs ys : List (List ℕ)) → Ends (xs ++ ys) → Ends xs
 ends_front [] ys h = tt
 ends_front (x ∷ xs) ys h = (h.0, ends_front xs ys h.1)
 
+-- a line that leads nowhere is the first bad one
 bad_here : (bytes : List ℕ) (before bs : List (List ℕ)) (b : List ℕ) (ss : List Symbol) (n : ℕ) → before ++ b ∷ bs ≡ ended_lines bytes → lead start before ≡ Some ss → n ≡ length before + 1
     → option_and_then (λ l. after ss l) (line_of b) ≡ None → IsBadLine bytes n
 bad_here bytes before bs b ss n is e at none =
     let less : n - 1 ≡ length before = omega arith in
-    let fronts : take (n - 1) (ended_lines bytes) ≡ before = rw (less, ← is) (take_front before (b ∷ bs)) in
+    let fronts : take (n - 1) (ended_lines bytes) ≡ before = rw (less, ← is) (take-append_seam before (b ∷ bs)) in
     let longer : length (before ++ b ∷ []) ≡ n = omega (arith, length-append before (b ∷ [])) in
-    let with_it : take n (ended_lines bytes) ≡ before ++ b ∷ [] = rw (← is, ← longer) (ap (take (length (before ++ b ∷ []))) (sym (append_assoc before (b ∷ []) bs)) ∙ take_front (before ++ b ∷ []) bs) in
+    let with_it : take n (ended_lines bytes) ≡ before ++ b ∷ [] = rw (← is, ← longer) (ap (take (length (before ++ b ∷ []))) (sym (append_assoc before (b ∷ []) bs)) ∙ take-append_seam (before ++ b ∷ []) bs) in
     let count : length (ended_lines bytes) ≡ length before + suc (length bs) = rw (← is) (length-append before (b ∷ bs)) in
     record {
       some = omega arith;
@@ -86,6 +87,7 @@ bad_here bytes before bs b ss n is e at none =
       );
     }
 
+-- the first refusal from a line on
 walk : (bytes : List ℕ) (bs before : List (List ℕ)) (ss : List Symbol) (n : ℕ) → before ++ bs ≡ ended_lines bytes → lead start before ≡ Some ss → n ≡ length before + 1
     → Answer bytes (refusal n ss bs (unfinished bytes))
 unfolding refusal

@@ -28,18 +28,22 @@ front_and_rest : (xs ys : List Line) → AllByRecursion LineInRange (xs ++ ys) �
 front_and_rest [] ys all = (tt, all)
 front_and_rest (x ∷ xs) ys all = let both = front_and_rest xs ys all.1 in ((all.0, both.0), both.1)
 
+-- the lines of joined events
 both_parts : (a b : List Event) → InLines (a ++ b) → InLines a × InLines b
 both_parts a b all = front_and_rest (lines_of a) (lines_of b) (subst (AllByRecursion LineInRange) (lines_append a b) all)
 
+-- as many trees without marks
 count-unmark : (ts : Markeds) → number_of_trees (unmark_all ts) ≡ count ts
 count-unmark m_none = refl
 count-unmark (m_more t ts) = ap suc (count-unmark ts)
 
+-- evidence in range has numbers
 has_numbers : (e : Evidence) → EvidenceInRange e → HasNumbers e
 has_numbers evidence.Over range = tt
 has_numbers (evidence.Long b) range = range.0
 has_numbers (evidence.Late q b w) range = (range.1, range.3)
 
+-- evidence in range fits
 pieces_fit : (es : List (ℕ × Evidence)) → AllByRecursion LineInRange (map against es ++ []) → AllByRecursion PieceFits es
 pieces_fit [] all = tt
 pieces_fit (e ∷ es) all = ((all.0.0, has_numbers e.1 all.0.1), pieces_fit es all.1)
@@ -47,6 +51,7 @@ pieces_fit (e ∷ es) all = ((all.0.0, has_numbers e.1 all.0.1), pieces_fit es a
 mutual
   unfolding Stands AllStand tree_events trees_events
 
+  -- a tree that stands and is in range fits
   tree_fits : (may : Bool) (depth : ℕ) (t : Marked) → Stands may depth t → InLines (tree_events t) → TreeFits depth (unmark t)
   tree_fits may depth (m_inner ts) stands all =
       let n = count-unmark ts in
@@ -58,22 +63,26 @@ mutual
   tree_fits true depth (shard t) stands all = tree_fits false depth t stands (both_parts (tree_events t) (event.JoinMark ∷ []) all.1).0
   tree_fits false depth (shard t) stands all = absurd stands
 
+  -- so do trees
   trees_fit : (may : Bool) (depth : ℕ) (ts : Markeds) → AllStand may depth ts → InLines (trees_events ts) → TreesFit depth (unmark_all ts)
   trees_fit may depth m_none stand all = tt
   trees_fit may depth (m_more t ts) stand all =
       let both = both_parts (tree_events t) (trees_events ts) all in
       (tree_fits may depth t stand.0 both.0, trees_fit may depth ts stand.1 both.1)
 
+-- frames in range fit
 frames_fit : (fs : List FrameLine) → InLines (map event.FrameOf fs) → AllByRecursion HasRoom fs
 frames_fit [] all = tt
 frames_fit (f ∷ fs) all = ((all.0.1, all.0.2), frames_fit fs all.1)
 
+-- so do lemmas
 lemmas_fit : (ls : List (LemmaOf Marked)) → AllByRecursion (λ (l : LemmaOf Marked). Stands true zero l.tree) ls → InLines (flat_map lemma_events ls) → AllByRecursion LemmaFits (map unmark_lemma ls)
 lemmas_fit [] stand all = tt
 lemmas_fit (l ∷ ls) stand all =
     let both = both_parts (lemma_events l) (flat_map lemma_events ls) all in
     ((both.0.0.0, tree_fits true zero l.tree stand.0 both.0.1), lemmas_fit ls stand.1 both.1)
 
+-- so does a main tree
 main_fits : (t : Option Marked) → MainStands t → InLines (main_events t) → MainFits (option_map unmark t)
 main_fits None stands all = tt
 main_fits (Some t) stands all = tree_fits true zero t stands all.1

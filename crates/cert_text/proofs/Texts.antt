@@ -20,9 +20,11 @@ use Rattle.cert_text.proofs.Whole.{begins-run, cert-run, run-begins, run-cert}
 
 -- ---- bytes and their lines
 
+-- these lines are without a line's end
 abbrev pub Ends : List (List ℕ) → Type 0
 Ends bs = AllByRecursion (λ b. free 10 b ≡ true) bs
 
+-- what is false is not true
 no : (b : Bool) → b ≡ false → not b ≡ true
 no true e = cc
 no false e = refl
@@ -38,16 +40,19 @@ parts_without byte (b ∷ bytes) = by (b == byte) refl (parts byte bytes) (parts
     by false e [] h = (rw e refl, tt)
     by false e (p ∷ ps) h = (rw e h.0, h.1)
 
+-- parts joined are ended lines and the rest
 joined : (p : List ℕ) (ps : List (List ℕ)) → join_with_byte 10 (p ∷ ps) ≡ with_ends (front (p ∷ ps)) ++ last (p ∷ ps)
 joined p [] = refl
 joined p (x ∷ ps) =
     ap (λ y. p ++ 10 ∷ y) (joined x ps) ∙ sym (append_assoc p (10 ∷ []) (with_ends (front (x ∷ ps)) ++ last (x ∷ ps))) ∙ sym (append_assoc (ended p) (with_ends (front (x ∷ ps))) (last (x ∷ ps)))
 
+-- a front without a line's end
 front_without : (ps : List (List ℕ)) → Ends ps → Ends (front ps)
 front_without [] h = tt
 front_without (x ∷ []) h = tt
 front_without (x ∷ y ∷ ps) h = (h.0, front_without (y ∷ ps) h.1)
 
+-- the last part without a line's end
 last_without : (ps : List (List ℕ)) → Ends ps → free 10 (last ps) ≡ true
 last_without [] h = refl
 last_without (x ∷ []) h = h.0
@@ -62,19 +67,23 @@ lines_and_rest bytes = sym (join_with_byte-slice_split 10 bytes) ∙ by (parts 1
     by [] = refl
     by (p ∷ ps) = joined p ps
 
+-- ended lines are without a line's end
 pub ended_free : (bytes : List ℕ) → Ends (ended_lines bytes)
 ended_free bytes = front_without (parts 10 bytes) (parts_without 10 bytes)
 
+-- ended lines and a rest are cut into them
 parts_of_lines : (bs : List (List ℕ)) (rest : List ℕ) → Ends bs → free 10 rest ≡ true → parts 10 (with_ends bs ++ rest) ≡ bs ++ rest ∷ []
 parts_of_lines [] rest h e = parts_alone 10 rest e
 parts_of_lines (b ∷ bs) rest h e =
     ap (parts 10) (append_assoc (ended b) (with_ends bs) rest ∙ append_assoc b (10 ∷ []) (with_ends bs ++ rest)) ∙ parts_free 10 b (with_ends bs ++ rest) h.0 ∙ ap (λ x. b ∷ x) (parts_of_lines bs rest h.1 e)
 
+-- all parts but one more
 front_push : (bs : List (List ℕ)) (x : List ℕ) → front (bs ++ x ∷ []) ≡ bs
 front_push [] x = refl
 front_push (b ∷ []) x = refl
 front_push (b ∷ c ∷ bs) x = ap (λ y. b ∷ y) (front_push (c ∷ bs) x)
 
+-- the part that is one more
 last_push : (bs : List (List ℕ)) (x : List ℕ) → last (bs ++ x ∷ []) ≡ x
 last_push [] x = refl
 last_push (b ∷ []) x = refl
@@ -84,19 +93,23 @@ last_push (b ∷ c ∷ bs) x = last_push (c ∷ bs) x
 pub ended_lines-of : (bs : List (List ℕ)) (rest : List ℕ) → Ends bs → free 10 rest ≡ true → ended_lines (with_ends bs ++ rest) ≡ bs
 ended_lines-of bs rest h e = ap front (parts_of_lines bs rest h e) ∙ front_push bs rest
 
+-- the rest after ended lines
 pub unfinished-of : (bs : List (List ℕ)) (rest : List ℕ) → Ends bs → free 10 rest ≡ true → unfinished (with_ends bs ++ rest) ≡ rest
 unfinished-of bs rest h e = ap last (parts_of_lines bs rest h e) ∙ last_push bs rest
 
 -- ---- lines of bytes and lines
 
+-- the bytes of joined lines
 pub text_append : (a b : List Line) → text_of (a ++ b) ≡ text_of a ++ text_of b
 text_append [] b = refl
 text_append (l ∷ a) b = ap (λ x. ended (line_text l) ++ x) (text_append a b) ∙ sym (append_assoc (ended (line_text l)) (text_of a) (text_of b))
 
+-- the bytes of lines are ended lines
 text_ends : (ls : List Line) → text_of ls ≡ with_ends (map line_text ls)
 text_ends [] = refl
 text_ends (l ∷ ls) = ap (λ x. ended (line_text l) ++ x) (text_ends ls)
 
+-- the bytes of lines in range are without a line's end
 texts_free : (ls : List Line) → AllByRecursion LineInRange ls → Ends (map line_text ls)
 texts_free [] h = tt
 texts_free (l ∷ ls) h = (line_free l h.0, texts_free ls h.1)
@@ -109,6 +122,7 @@ record Fronted (bs : List (List ℕ)) (ls : List Line) (rest : List ℕ) : Type 
   bytes : map line_text lines ≡ bs
   left : rest ≡ text_of others
 
+-- equal texts have equal first lines and rests
 one_less : (b : List ℕ) (x y : List ℕ) (l : List ℕ) → free 10 b ≡ true → free 10 l ≡ true → b ++ 10 ∷ x ≡ l ++ 10 ∷ y → (b ≡ l) × (x ≡ y)
 unfolding parts
 one_less b x y l e f same =
@@ -117,10 +131,12 @@ one_less b x y l e f same =
     let tails : parts 10 x ≡ parts 10 y = cc in
     (heads, sym (join_with_byte-slice_split 10 x) ∙ ap (join_with_byte 10) tails ∙ join_with_byte-slice_split 10 y)
 
+-- a text with a line is not empty
 never : (b x : List ℕ) → b ++ 10 ∷ x ≡ [] → ⊥
 never [] x e = absurd (let h : 10 ∷ x ≡ [] = e in cc)
 never (c ∷ b) x e = absurd (let h : c ∷ (b ++ 10 ∷ x) ≡ [] = e in cc)
 
+-- ended lines at the front of the bytes of lines are those of a front of them
 fronted : (bs : List (List ℕ)) (ls : List Line) (rest : List ℕ) → Ends bs → AllByRecursion LineInRange ls → with_ends bs ++ rest ≡ text_of ls → Fronted bs ls rest
 fronted [] ls rest h small e = record { lines = []; others = ls; is = refl; bytes = refl; left = e }
 fronted (b ∷ bs) [] rest h small e =
@@ -154,6 +170,7 @@ pub record Said (ss next : List Symbol) (bs : List (List ℕ)) : Type 0 where
   pub small : AllByRecursion LineInRange lines
   pub runs : run ss lines ≡ Some next
 
+-- bytes that lead on say lines that do
 pub lead_said : (ss next : List Symbol) (bs : List (List ℕ)) → lead ss bs ≡ Some next → Said ss next bs
 unfolding lead run
 lead_said ss next [] e = record { lines = []; bytes = refl; small = tt; runs = e }
@@ -177,6 +194,7 @@ lead_said ss next (b ∷ bs) e = by (line_of b) refl (λ x. lead_said x next bs)
 
 -- ---- the law of texts
 
+-- lines that begin a text lead on
 pub begins-lead : (bs : List (List ℕ)) → Ends bs → BeginsText (with_ends bs) → (next : List Symbol) × (lead start bs ≡ Some next)
 begins-lead bs h b =
     let f = fronted bs (cert_lines b.marked) b.rest h b.in_range.numbers (sym b.text) in
@@ -188,12 +206,14 @@ begins-lead bs h b =
     front_small [] ys h = tt
     front_small (x ∷ xs) ys h = (h.0, front_small xs ys h.1)
 
+-- lines that lead on begin a text
 pub lead-begins : (bs : List (List ℕ)) (next : List Symbol) → lead start bs ≡ Some next → BeginsText (with_ends bs)
 lead-begins bs next e =
     let s = lead_said start next bs e in
     let b = run-begins s.lines next s.small s.runs in
     record { marked = b.marked; rest = text_of b.rest; in_range = b.in_range; text = ap text_of b.lines ∙ text_append s.lines b.rest ∙ ap (λ x. x ++ text_of b.rest) (text_ends s.lines ∙ ap with_ends s.bytes) }
 
+-- lines that lead to the end are a text
 pub lead-cert : (bs : List (List ℕ)) → lead start bs ≡ Some [] → (cert : CertOf Plain) × CertText (with_ends bs) cert
 lead-cert bs e =
     let s = lead_said start [] bs e in

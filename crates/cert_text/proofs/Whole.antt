@@ -16,15 +16,18 @@ use Rattle.cert_text.specs.CertEvents.{lemma_events, main_events, tree_events}
 use Rattle.cert_text.specs.Lines.{LineInRange, cert_lines, lines_of}
 use Rattle.cert_text.specs.CertText.{InRange}
 use Rattle.cert_text.specs.Grammar.{run, start}
+use Rattle.cert_text.proofs.Cuts.{all_append}
 use Rattle.cert_text.proofs.Fills.{Body, Fills, Trees, Value, body_said, spell}
 use Rattle.cert_text.proofs.Law.{fills-run, leads_back, leads_on, run-fills, run_more}
 
 -- ---- pieces can be completed
 
+-- the shortest lemmas and main tree
 least_trees : Trees
 unfolding Stands
 least_trees = record { lemmas = []; main = m_bound; lemmas_stand = tt; main_stands = tt }
 
+-- the shortest filling of a piece
 least : (s : Symbol) → Value s
 unfolding Stands
 least symbol.First = tt
@@ -37,10 +40,7 @@ least symbol.Against = (0, evidence.Over)
 least symbol.Join = tt
 least symbol.End = tt
 
-pub all_append : {X : Type 0} (P : X → Type 0) (xs ys : List X) → AllByRecursion P xs → AllByRecursion P ys → AllByRecursion P (xs ++ ys)
-all_append P [] ys a b = b
-all_append P (x ∷ xs) ys a b = (a.0, all_append P xs ys a.1 b)
-
+-- it is in range
 least_in_range : (s : Symbol) → AllByRecursion LineInRange (spell s (least s))
 unfolding least least_trees tree_events
 least_in_range symbol.First = (tt, tt)
@@ -53,11 +53,13 @@ least_in_range symbol.Against = ((omega arith, tt), tt)
 least_in_range symbol.Join = (tt, tt)
 least_in_range symbol.End = (tt, tt)
 
+-- lines in range that fill the pieces
 pub record Completed (ss : List Symbol) : Type 0 where
   pub rest : List Line
   pub fills : Fills ss rest
   pub in_range : AllByRecursion LineInRange rest
 
+-- each pieces can be filled
 pub completed : (ss : List Symbol) → Completed ss
 completed [] = record { rest = []; fills = record { values = tt; lines = refl }; in_range = tt }
 completed (s ∷ ss) =
@@ -70,11 +72,13 @@ completed (s ∷ ss) =
 
 -- ---- what fills the start is a certificate
 
+-- the lines are those of a certificate that stands
 pub record IsCert (ls : List Line) : Type 0 where
   pub marked : CertOf Marked
   pub stands : CertStands marked
   pub lines : cert_lines marked ≡ ls
 
+-- a first line, a kind and what follows it are a certificate
 of_body : (k : Kind) (b : Body k) → IsCert (line.FirstLine ∷ line.KindLine k ∷ lines_of (body_said k b))
 of_body KindPlaced b = record {
   marked = record { kind = KindPlaced; frames = []; lemmas = []; main_tree = None };
@@ -102,12 +106,14 @@ of_body KindNoSolution b = record {
   lines = refl;
 }
 
+-- what fills the start is a certificate
 pub fills-cert : (ls : List Line) → Fills start ls → IsCert ls
 fills-cert ls f =
     let k = f.values.1.0.0 in
     let b = f.values.1.0.1 in
     subst IsCert (ap (λ x. line.FirstLine ∷ line.KindLine k ∷ x) (sym (append-nil _)) ∙ f.lines) (of_body k b)
 
+-- what follows the line of a certificate's kind
 body_of : (k : Kind) (frames : List FrameLine) (lemmas : List (LemmaOf Marked)) (main : Option Marked) → HasParts k frames lemmas main
     → AllByRecursion (λ (l : LemmaOf Marked). Stands true zero l.tree) lemmas → MainStands main
     → (b : Body k) × (body_said k b ≡ map event.FrameOf frames ++ (flat_map lemma_events lemmas ++ (main_events main ++ event.Finish ∷ [])))
@@ -120,6 +126,7 @@ body_of KindBest frames lemmas (Some t) has stand main_stands = ((frames, record
 body_of KindNoSolution frames lemmas None has stand main_stands = absurd (let h : false ≡ true = has in cc)
 body_of KindNoSolution frames lemmas (Some t) has stand main_stands = ((frames, record { lemmas = lemmas; main = t; lemmas_stand = stand; main_stands = main_stands }), refl)
 
+-- a certificate fills the start
 pub cert-fills : (c : CertOf Marked) → CertStands c → Fills start (cert_lines c)
 cert-fills c stands =
     let b = body_of c.kind c.frames c.lemmas c.main_tree stands.parts stands.lemmas_stand stands.main_stands in
@@ -159,6 +166,7 @@ begins-run ls b =
 pub run-cert : (ls : List Line) → run start ls ≡ Some [] → IsCert ls
 run-cert ls e = fills-cert ls (run-fills start ls e)
 
+-- a certificate's lines lead to the end
 pub cert-run : (c : CertOf Marked) → CertStands c → run start (cert_lines c) ≡ Some []
 cert-run c stands = fills-run start (cert_lines c) (cert-fills c stands)
 

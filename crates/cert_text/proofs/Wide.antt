@@ -11,10 +11,12 @@ use Rattle.std.proofs.lemmas.Str.Parse.{IsNumeralModel, digit_from_value, numera
 use Rattle.csv_table.specs.Decimal.{is_decimal, value_after}
 use Rattle.cert_text.specs.Words.{wide_of}
 
+-- further digits make a number no less
 le_value_after : (n : ℕ) (ds : List ℕ) → n ≤ digits_value_after 10 n ds
 le_value_after n [] = omega arith
 le_value_after n (c ∷ cs) = omega (arith, le_value_after (n * 10 + digit_value c) cs)
 
+-- the digits after others
 decimal_after : (n : ℕ) (ds : List ℕ) → 0 < n → AllDigits 10 ds → digits_value_after 10 n ds < 10 ^ 64 → decimal (digits_value_after 10 n ds) ≡ decimal n ++ ds
 decimal_after n [] some d small = sym (append-nil (decimal n))
 decimal_after n (c ∷ cs) some d small =
@@ -25,6 +27,7 @@ decimal_after n (c ∷ cs) some d small =
     decimal_after m cs (omega arith) d.1 small ∙ ap (λ x. x ++ cs) (decimal_step_wide m (omega arith) (omega (arith, le_value_after m cs)) ∙ (λ i. decimal (front i) ++ (end i ∷ [])))
     ∙ append_assoc (decimal n) (c ∷ []) cs
 
+-- the value of a decimal
 decimal_value : (ds : List ℕ) → AllDigits 10 ds → 0 < length ds → (get_or ds 0 0 ≡ 48 → length ds ≡ 1) → digits_value 10 ds < 10 ^ 64 → decimal (digits_value 10 ds) ≡ ds
 decimal_value [] d some lead small = absurd (omega arith)
 decimal_value (c ∷ []) d some lead small =
@@ -36,14 +39,17 @@ decimal_value (c ∷ e ∷ cs) d some lead small =
     let is : 48 + (0 * 10 + digit_value c) ≡ c = omega arith in
     decimal_after (0 * 10 + digit_value c) (e ∷ cs) (omega arith) d.1 small ∙ ap (λ x. x ++ (e ∷ cs)) (decimal_digit (0 * 10 + digit_value c) (omega (arith, d.0)) ∙ ap (λ x. x ∷ []) is)
 
+-- a digit is its own
 own : IsNumeralModel (λ ds. all_ascii_digits ds ≡ true) (value_after 0)
 own = numerals_by_fold _ tells_all_ascii_digits value_after (search rules)
 
+-- a test that is false
 or_not : (a b : Bool) → (a || not b) ≡ true → b ≡ true → a ≡ true
 or_not true b e h = refl
 or_not false true e h = cc
 or_not false false e h = cc
 
+-- digits spell their value
 pub wide_spelled : (w : List ℕ) → is_decimal w ≡ true → value_after 0 w < 2 ^ 128 → w ≡ decimal (value_after 0 w)
 wide_spelled w e small =
     let outer = and_parts _ _ e in
@@ -52,10 +58,12 @@ wide_spelled w e small =
     let same = own.same w digits in
     sym (ap decimal same ∙ decimal_value w digits (leb-true _ _ inner.1) (λ z. eqb-true _ _ (or_not _ _ outer.1 (eq-eqb _ _ z))) (omega (arith, same)))
 
+-- the first digit of a number
 first_digit : (n : ℕ) → 0 < n → n < 10 ^ 64 → 48 < get_or (decimal n) 0 0
 first_digit n some small = (decimal_by_steps_wide (λ m ds. (0 < length ds) × (0 < m → 48 < get_or ds 0 0)) (λ m l. (omega arith, λ a. omega arith))
     (λ m ds l h. (omega (arith, length-append ds ((48 + m % 10) ∷ [])), λ a. omega (arith, get_or-append ds ((48 + m % 10) ∷ []) 0 0 h.0, h.1 (omega arith)))) n small).1 some
 
+-- a decimal begins with no zero
 lead : (n : ℕ) → n < 10 ^ 64 → ((length (decimal n) == 1) || not (get_or (decimal n) 0 0 == 48)) ≡ true
 lead zero small = rw (decimal_digit 0 (omega arith)) refl
 lead (suc n) small =
@@ -67,9 +75,11 @@ lead (suc n) small =
     ored true = refl
     ored false = refl
 
+-- a decimal is digits
 pub digits_of_decimal : (n : ℕ) → n < 2 ^ 128 → AllDigits 10 (decimal n)
 digits_of_decimal n small = (decimal_is_IsNumeral_wide n (omega arith)).0.1
 
+-- a number below 2 ^ 128 is said by its decimal
 pub wide_back : (n : ℕ) → n < 2 ^ 128 → wide_of (decimal n) ≡ Some n
 wide_back n small =
     let is = decimal_is_IsNumeral_wide n (omega arith) in

@@ -32,4 +32,5 @@ main_events (Some t) = event.Main ∷ tree_events t
 abbrev pub cert_events : CertOf Marked → List Event
 cert_events c =
     event.Head c.kind
-    ∷ (map event.FrameOf c.frames ++ (flat_map lemma_events c.lemmas ++ (main_events c.main_tree ++ event.Finish ∷ [])))
+    ∷ (map event.FrameOf c.frames
+    ++ (flat_map lemma_events c.lemmas ++ (main_events c.main_tree ++ event.Finish ∷ [])))

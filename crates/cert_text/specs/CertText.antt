@@ -54,11 +54,13 @@ unfinished bytes = last (parts 10 bytes)
 abbrev pub with_ends : List (List ℕ) → List ℕ
 with_ends lines = flat_map ended lines
 
--- this line, counted from 1, is the first that no certificate has after those before it; or bytes follow `end` there
+-- this line, counted from 1, is the first that no certificate has after those before it; or bytes follow `end`
+-- there
 pub record IsBadLine (bytes : List ℕ) (n : ℕ) : Type 0 where
   pub some : 1 ≤ n
   pub before : BeginsText (with_ends (take (n - 1) (ended_lines bytes)))
-  pub bad : ((n ≤ length (ended_lines bytes)) × (BeginsText (with_ends (take n (ended_lines bytes))) → ⊥))
+  pub bad :
+      ((n ≤ length (ended_lines bytes)) × (BeginsText (with_ends (take n (ended_lines bytes))) → ⊥))
       ⊎ ((n ≡ length (ended_lines bytes) + 1)
       × ((cert : CertParts) × CertText (with_ends (ended_lines bytes)) cert)
       × (unfinished bytes ≢ []))

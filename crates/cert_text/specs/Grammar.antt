@@ -18,7 +18,8 @@ body KindNoSolution = symbol.Parts
 
 -- subtrees, where so many inner nodes stand above
 abbrev pub subtrees : Bool → ℕ → ℕ → Option (List Symbol)
-subtrees marks depth n = if nat_lt depth 128 then Some (replicate n (symbol.TreeAt marks (suc depth))) else None
+subtrees marks depth n =
+    if nat_lt depth 128 then Some (replicate n (symbol.TreeAt marks (suc depth))) else None
 
 -- the rest of a marked tree, where marks may stand
 abbrev pub marked_tree : Bool → ℕ → Option (List Symbol)

@@ -79,7 +79,8 @@ kind_name KindNoSolution = codes "none"
 abbrev pub evidence_words : ℕ → Evidence → List (List ℕ)
 evidence_words label evidence.Over = codes "over" ∷ map decimal (label ∷ [])
 evidence_words label (evidence.Long b) = codes "long" ∷ map decimal (label ∷ b)
-evidence_words label (evidence.Late q b w) = codes "late" ∷ (map decimal (label ∷ q ∷ b) ++ (codes "/" ∷ map decimal w))
+evidence_words label (evidence.Late q b w) =
+    codes "late" ∷ (map decimal (label ∷ q ∷ b) ++ (codes "/" ∷ map decimal w))
 
 -- the words of a line
 unfoldable pub line_words : Line → List (List ℕ)

@@ -32,6 +32,10 @@ HasParts KindBetween frames lemmas tree = IsSome tree
 HasParts KindBest frames lemmas tree = IsSome tree
 HasParts KindNoSolution frames lemmas tree = IsSome tree
 
+-- the certificate of a placed matrix, which has no parts
+abbrev pub placed_parts : CertParts
+placed_parts = record { kind = KindPlaced; frames = []; lemmas = []; main_tree = None }
+
 -- the lemma without marks
 abbrev pub unmark_lemma : LemmaOf Marked → LemmaOf Plain
 unmark_lemma l = record { sender = l.sender; value = l.value; tree = unmark l.tree }

@@ -53,21 +53,25 @@ first_of (more t ts ∷ rows) = t
 
 mutual
   -- the entries of a tree give it back, before the rows that follow
-  pub rows-entries : (t : Plain) (rest : List Entry) (ts : Plains) (rows : List Plains) → rows_of rest ≡ ts ∷ rows
+  pub rows-entries : (t : Plain) (rest : List Entry) (ts : Plains) (rows : List Plains)
+      → rows_of rest ≡ ts ∷ rows
       → rows_of (entries t rest) ≡ more t ts ∷ rows
-  rows-entries (inner us) rest ts rows e = ap closed (rows-entries_all us ((1, []) ∷ rest) (ts ∷ rows) (ap (λ rs. none ∷ rs) e))
+  rows-entries (inner us) rest ts rows e =
+      ap closed (rows-entries_all us ((1, []) ∷ rest) (ts ∷ rows) (ap (λ rs. none ∷ rs) e))
   rows-entries bound rest ts rows e = ap (before bound) e
   rows-entries left rest ts rows e = ap (before left) e
   rows-entries (fail es) rest ts rows e = ap (before (fail es)) e
 
   -- the entries of trees give them back
-  pub rows-entries_all : (ts : Plains) (rest : List Entry) (rows : List Plains) → rows_of rest ≡ none ∷ rows
+  pub rows-entries_all : (ts : Plains) (rest : List Entry) (rows : List Plains)
+      → rows_of rest ≡ none ∷ rows
       → rows_of (entries_all ts rest) ≡ ts ∷ rows
   rows-entries_all none rest rows e = e
-  rows-entries_all (more t ts) rest rows e = rows-entries t (entries_all ts rest) ts rows (rows-entries_all ts rest rows e)
+  rows-entries_all (more t ts) rest rows e =
+      rows-entries t (entries_all ts rest) ts rows (rows-entries_all ts rest rows e)
 
 -- a plain tree is stored as its entries
 abbrev pub plain_code : Coded Plain
 plain_code =
-    code_by (List Entry) (coded_list (coded× coded_ℕ (coded_list (coded× coded_ℕ evidence.the_row.coded)))) (λ t. entries t [])
-    (λ es. first_of (rows_of es)) (λ t. ap first_of (rows-entries t [] none [] refl))
+    code_by (List Entry) (coded_list (coded× coded_ℕ (coded_list (coded× coded_ℕ evidence.the_row.coded))))
+    (λ t. entries t []) (λ es. first_of (rows_of es)) (λ t. ap first_of (rows-entries t [] none [] refl))

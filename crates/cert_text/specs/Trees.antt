@@ -2,7 +2,8 @@
 use Rattle.std.specs.Prelude.{⊤, ◌<◌, ℕ, suc, zero, List, Bool, true, false}
 use Rattle.response_test.specs.declared.evidence.Evidence.{Evidence}
 
--- a tree: an inner node with its subtrees, a bound leaf, an open leaf, or a fail leaf with evidence against classes
+-- a tree: an inner node with its subtrees, a bound leaf, an open leaf, or a fail leaf with evidence against
+-- classes
 mutual
   pub data Plain : Type 0 where
     inner : Plains → Plain

@@ -78,8 +78,8 @@ HasNumbers (evidence.Late q b w) = (1 ≤ length b) × (1 ≤ length w)
 abbrev pub PieceFits : ℕ × Evidence → Type 0
 PieceFits x = (x.0 ≤ 127) × HasNumbers x.1
 
--- a tree below so many inner nodes has a text: there are 128 on a path at most, each with 1 to 128 subtrees, and a fail
--- leaf has up to 128 pieces of evidence
+-- a tree below so many inner nodes has a text: there are 128 on a path at most, each with 1 to 128 subtrees, and a
+-- fail leaf has up to 128 pieces of evidence
 abbrev mutual
   pub TreeFits : ℕ → Plain → Type 0
   TreeFits depth (inner ts) =

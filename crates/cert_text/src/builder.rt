@@ -71,7 +71,8 @@ impl Builder {
 
     // Puts a tree where the next one is lacking.
     fn put(&mut self, tree: Tree) -> Result<(), Memory>
-        ensures { OnOk result (made_by self.new ≡ put_tree (plain_of tree) (nodes_of self.old.nodes.items) (made_by self.old)) }
+        ensures { OnOk result
+            (made_by self.new ≡ put_tree (plain_of tree) (nodes_of self.old.nodes.items) (made_by self.old)) }
     {
         let mut tree = tree;
         while let Some(mut node) = self.nodes.pop() {

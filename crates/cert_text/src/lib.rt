@@ -1,7 +1,7 @@
 //! The text of a certificate: its grammar, read and written exactly.
 //!
-//! The contract that upper crates use is that [`read_cert`] gives exactly the certificate of a text, or why it has none,
-//! and that what was written is read back.
+//! The contract that upper crates use is that [`read_cert`] gives exactly the certificate of a text, or why it has
+//! none, and that what [`write_cert`] wrote is read back.
 #![tactic(auto)]
 
 mod builder;
@@ -23,7 +23,6 @@ pub use fault::CertFault;
 pub use parts::{Cert, FrameLine, Kind, Lemma, Refuted, Tree};
 pub use reading::read_cert;
 pub use writing::write_cert;
-
 
 #[cfg(test)]
 mod tests;

@@ -114,7 +114,13 @@ fn put_long(out: &mut Vec<u8>, label: u32, busy: &[u64]) -> Result<(), Memory>
 }
 
 // Adds the line of an instance that ends late.
-fn put_late(out: &mut Vec<u8>, label: u32, q: u64, busy: &[u64], queue: &[u64]) -> Result<(), Memory>
+fn put_late(
+    out: &mut Vec<u8>,
+    label: u32,
+    q: u64,
+    busy: &[u64],
+    queue: &[u64],
+) -> Result<(), Memory>
     ensures { OnOk result (Adds out.old.items out.new.items
         (line.AgainstLine label (evidence.Late q busy.now queue.now) ∷ [])) }
 {

@@ -117,18 +117,19 @@ impl Model for Cert {
     ghost coded = { Prim.hlevel (codes, plain_code) };
 
     ghost view = { λ a. record {
-        kind = a.kind;
-        frames = a.frames.items;
-        lemmas = map plain_lemma a.lemmas.items;
-        main_tree = option_map plain_of a.main_tree;
+      kind = a.kind;
+      frames = a.frames.items;
+      lemmas = map plain_lemma a.lemmas.items;
+      main_tree = option_map plain_of a.main_tree;
     } };
 
-    ghost invariant = { λ a. HasParts a.kind a.frames.items (map plain_lemma a.lemmas.items) (option_map plain_of a.main_tree) };
+    ghost invariant = { λ a.
+        HasParts a.kind a.frames.items (map plain_lemma a.lemmas.items) (option_map plain_of a.main_tree) };
 }
 
 impl Cert {
-    /// The certificate of these parts, which are those that the kind has: `KindPlaced` none, `KindTimed` frames, and each
-    /// other kind frames, lemmas and a main tree.
+    /// The certificate of these parts, which are those that the kind has: `KindPlaced` none, `KindTimed` frames, and
+    /// each other kind frames, lemmas and a main tree.
     pub fn of(
         kind: Kind,
         frames: Vec<FrameLine>,
@@ -137,10 +138,10 @@ impl Cert {
     ) -> Cert
         requires { HasParts kind frames.items (map plain_lemma lemmas.items) (option_map plain_of main_tree) }
         ensures { result ≡ record {
-            kind = kind;
-            frames = frames.items;
-            lemmas = map plain_lemma lemmas.items;
-            main_tree = option_map plain_of main_tree;
+          kind = kind;
+          frames = frames.items;
+          lemmas = map plain_lemma lemmas.items;
+          main_tree = option_map plain_of main_tree;
         } }
     {
         Cert {

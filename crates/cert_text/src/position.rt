@@ -44,7 +44,6 @@ pub(crate) struct Position {
 impl Model for Position {
     ghost use Rattle.std.specs.Prelude.{List};
     ghost use Rattle.cert_text.specs.declared.symbol.Symbol.{Symbol};
-
     ghost use Rattle.cert_text.specs.Pieces.{pieces};
 
     ghost Value = { List Symbol };

@@ -60,14 +60,14 @@ fn read_lines(alloc: Global, bytes: &[u8]) -> Result<Cert, CertFault>
     Ok(builder.into_cert())
 }
 
-/// The certificate of a text in the format of CERT: lines that LF ends, from `canpack certificate 1` to `end`, with a
-/// single space between two words. Marks change nothing of it.
+/// The certificate of a text in the format of CERT: lines that LF ends, from `canpack certificate 1` to `end`, with
+/// a single space between two words. Marks change nothing of it.
 ///
 /// # Errors
 ///
-/// `BadLine(n)` where line n, counted from 1, is the first that no certificate has after the lines before it, or where
-/// bytes follow the line `end` there; `Cut` where all lines can stand and `end` isn't among them; `Memory` where memory
-/// runs out.
+/// `BadLine(n)` where line n, counted from 1, is the first that no certificate has after the lines before it, or
+/// where bytes follow the line `end` there; `Cut` where all lines can stand and `end` isn't among them; `Memory` where
+/// memory runs out.
 pub fn read_cert(alloc: Global, bytes: &[u8]) -> Result<Cert, CertFault>
     // What is returned is `cert_of_text` of the bytes, want of memory aside.
     ensures exact { Gives (λ cert. cert) cert_refusal result (cert_of_text bytes.now) }

@@ -94,8 +94,14 @@ fn deep(alloc: Global, levels: u64) -> Result<Vec<u8>, AllocError> {
 fn deepest(rt: HostRuntime) -> Result<(), Fail> {
     let text = deep(rt.alloc(), 128)?;
     let cert = read_cert(rt.alloc(), text.as_slice())?;
-    assert_eq!(rt; write_cert(rt.alloc(), &cert, false)?.as_slice(), text.as_slice());
+    assert_eq!(rt;
+        write_cert(rt.alloc(), &cert, false)?.as_slice(),
+        text.as_slice()
+    );
     let text = deep(rt.alloc(), 129)?;
-    assert_eq!(rt; read_cert(rt.alloc(), text.as_slice()).err(), Some(CertFault::BadLine(132)));
+    assert_eq!(rt;
+        read_cert(rt.alloc(), text.as_slice()).err(),
+        Some(CertFault::BadLine(132))
+    );
     Ok(())
 }

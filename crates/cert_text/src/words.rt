@@ -58,7 +58,8 @@ fn over_in(text: &[u8]) -> Option<Line>
 
 // Adds the number of a word, if it is one.
 fn push_number(numbers: &mut Vec<u64>, word: &[u8]) -> Result<bool, Memory>
-    ensures taken { IfOk result (λ t. IsTrue t → IfSome (number_of word.now) (λ n. numbers.new.items ≡ numbers.old.items ++ n ∷ [])) }
+    ensures taken { IfOk result (λ t. IsTrue t
+        → IfSome (number_of word.now) (λ n. numbers.new.items ≡ numbers.old.items ++ n ∷ [])) }
     ensures some { IfOk result (λ t. IsTrue t ↔ IsSome (number_of word.now)) }
 {
     let Some(number) = number_in(word) else {
@@ -170,7 +171,9 @@ fn alone_in(word: &[u8]) -> Option<Line>
 
 // The number below 2 ^ 128 that digits alone spell.
 fn wide_digits(bytes: &[u8]) -> Option<u128>
-    ensures { result ≡ (if all_ascii_digits bytes.now && nat_lt (value_after 0 bytes.now) (2 ^ 128) then Some (value_after 0 bytes.now) else None) }
+    ensures { result
+        ≡ (if all_ascii_digits bytes.now && nat_lt (value_after 0 bytes.now) (2 ^ 128)
+        then Some (value_after 0 bytes.now) else None) }
 {
     let mut value: u128 = 0;
     for byte in bytes {
@@ -235,7 +238,8 @@ fn first_in(text: &[u8]) -> Option<Line>
 
 // Numbers, a slash, and numbers.
 fn sides_in(alloc: Global, text: &[u8]) -> Result<Option<(Vec<u64>, Vec<u64>)>, Memory>
-    ensures { IfOk result (λ found. option_map (λ p. (p.0.items, p.1.items)) found ≡ both_sides (before_slash (parts 32 text.now))) }
+    ensures { IfOk result (λ found.
+        option_map (λ p. (p.0.items, p.1.items)) found ≡ both_sides (before_slash (parts 32 text.now))) }
 {
     let mut numbers = Vec::new(alloc);
     let mut left = text;

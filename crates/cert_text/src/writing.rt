@@ -151,7 +151,8 @@ fn put_lemmas(out: &mut Vec<u8>, lemmas: &[Lemma], marks: bool) -> Result<(), Me
 // Adds the lines of a main tree, if there is one.
 fn put_main(out: &mut Vec<u8>, tree: Option<&Tree>, marks: bool) -> Result<(), Memory>
     ensures { OnOk result (Adds out.old.items out.new.items
-        (lines_of (main_events (option_map (with_marks (main_marks marks)) (option_map plain_of (option_copied tree.entry)))))) }
+        (lines_of (main_events (option_map (with_marks (main_marks marks))
+        (option_map plain_of (option_copied tree.entry)))))) }
 {
     let Some(tree) = tree else {
         return Ok(());
@@ -177,10 +178,10 @@ fn put_cert(out: &mut Vec<u8>, cert: &Cert, marks: bool) -> Result<(), Memory>
     Ok(())
 }
 
-/// The text of a certificate in the format of CERT. With `marks` each lemma's tree is marked, and each inner node of the
-/// main tree that stands at a grouping of exactly 3 items. There are 1 to 256 numbers in each frame's queue, at most 128
-/// inner nodes on a path, 1 to 128 subtrees of a node, at most 128 pieces of evidence, and at least one number in each of
-/// their lists; labels are at most 127, and senders at most 255.
+/// The text of a certificate in the format of CERT. With `marks` each lemma's tree is marked, and each inner node of
+/// the main tree that stands at a grouping of exactly 3 items. There are 1 to 256 numbers in each frame's queue, at most
+/// 128 inner nodes on a path, 1 to 128 subtrees of a node, at most 128 pieces of evidence, and at least one number in
+/// each of their lists; labels are at most 127, and senders at most 255.
 pub fn write_cert(alloc: Global, cert: &Cert, marks: bool) -> Result<Vec<u8>, Memory>
     requires fits { CertFits cert.now }
     // The lines of the certificate with these marks,
