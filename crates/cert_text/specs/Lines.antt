@@ -1,57 +1,111 @@
--- What the lines of a certificate say.
-use Rattle.std.specs.Prelude.{ℕ, ◌-◌, ◌==◌, ◌&&◌, List, [], ◌∷◌, length, take, slice_index_or, codes, nat_le, Option, Some, None, if◌then◌else◌}
-use Rattle.std.specs.Option.{option_and_then, option_map}
-use Rattle.std.specs.List.{slice_split}
-use Rattle.std.specs.Str.{bytes_eq}
-use Rattle.csv_table.specs.Decimal.{decimal_of}
+-- The lines of certificates: which there are, in which range, and with which bytes.
+use Rattle.std.specs.Prelude.{◌≡◌, ⊤, ◌<◌, ◌≤◌, ◌^◌, ℕ, List, [], ◌∷◌, ◌++◌, length, map, codes, decimal}
+use Rattle.std.specs.List.{flat_map, AllByRecursion, join_with_byte}
+use Rattle.response_test.specs.declared.evidence.Evidence.{Evidence}
+use Rattle.response_test.specs.declared.evidence.Evidence.TheVariants as evidence
+use Rattle.cert_text.specs.declared.parts.Kind.{Kind}
+use Rattle.cert_text.specs.declared.parts.Kind.TheVariants.{KindPlaced, KindTimed, KindBetween, KindBest, KindNoSolution}
+use Rattle.cert_text.specs.declared.event.Event.{Event}
+use Rattle.cert_text.specs.declared.event.Event.TheVariants as event
 use Rattle.cert_text.specs.declared.line.Line.{Line}
-use Rattle.cert_text.specs.declared.line.Line.TheVariants.{Head, Placed, Timed, Frame, End, Other}
+use Rattle.cert_text.specs.declared.line.Line.TheVariants as line
+use Rattle.cert_text.specs.Trees.{Marked}
+use Rattle.cert_text.specs.Parts.{CertOf}
+use Rattle.cert_text.specs.CertEvents.{cert_events}
 
--- what stands before, between and after the bytes of this value
-unfoldable pub parts : ℕ → List ℕ → List (List ℕ)
-parts byte bytes = slice_split (λ b. b == byte) bytes
+-- the line of a piece of evidence
+abbrev pub against : ℕ × Evidence → Line
+against x = line.AgainstLine x.0 x.1
 
--- the lines that LF ends
-abbrev pub ended_lines : List ℕ → List (List ℕ)
-ended_lines text = take (length (parts 10 text) - 1) (parts 10 text)
+-- the lines of an event
+abbrev pub event_lines : Event → List Line
+event_lines (event.Head k) = line.FirstLine ∷ line.KindLine k ∷ []
+event_lines (event.FrameOf f) = line.FrameWords f ∷ []
+event_lines (event.LemmaOf sender value) = line.LemmaWords sender value ∷ []
+event_lines event.Main = line.MainLine ∷ []
+event_lines (event.Node n) = line.InnerLine n ∷ []
+event_lines event.BoundLeaf = line.BoundLine ∷ []
+event_lines event.OpenLeaf = line.OpenLine ∷ []
+event_lines (event.FailLeaf es) = line.FailLine (length es) ∷ map against es
+event_lines event.ShardMark = line.ShardLine ∷ []
+event_lines event.JoinMark = line.JoinLine ∷ []
+event_lines event.Finish = line.EndLine ∷ []
 
--- the bytes after the last LF
-abbrev pub unfinished : List ℕ → List ℕ
-unfinished text = slice_index_or (parts 10 text) (length (parts 10 text) - 1) []
+-- the lines of events
+abbrev pub lines_of : List Event → List Line
+lines_of es = flat_map event_lines es
 
--- the words of a line, with one space between two
-abbrev pub words : List ℕ → List (List ℕ)
-words line = parts 32 line
+-- the lines of a certificate
+abbrev pub cert_lines : CertOf Marked → List Line
+cert_lines c = lines_of (cert_events c)
 
--- a number: a decimal below 2 ^ 64
-abbrev pub number_of : List ℕ → Option ℕ
-number_of word = decimal_of 0 18446744073709551615 word
+-- numbers below 2 ^ 64
+abbrev pub AreNumbers : List ℕ → Type 0
+AreNumbers ns = AllByRecursion (λ n. n < 2 ^ 64) ns
 
--- numbers, where each word is one
-abbrev pub numbers_of : List (List ℕ) → Option (List ℕ)
-numbers_of [] = Some []
-numbers_of (word ∷ others) = option_and_then (λ n. option_map (λ ns. n ∷ ns) (numbers_of others)) (number_of word)
+-- the numbers of evidence are in range
+abbrev pub EvidenceInRange : Evidence → Type 0
+EvidenceInRange evidence.Over = ⊤
+EvidenceInRange (evidence.Long b) = (1 ≤ length b) × AreNumbers b
+EvidenceInRange (evidence.Late q b w) =
+    (q < 2 ^ 64) × (1 ≤ length b) × AreNumbers b × (1 ≤ length w) × AreNumbers w
 
--- 1 to 256 numbers
-abbrev pub queue_of : List (List ℕ) → Option (List ℕ)
-queue_of numerals = if nat_le 1 (length numerals) && nat_le (length numerals) 256 then numbers_of numerals else None
+-- the numbers of a line are in range
+abbrev pub LineInRange : Line → Type 0
+LineInRange line.FirstLine = ⊤
+LineInRange (line.KindLine k) = ⊤
+LineInRange (line.FrameWords f) =
+    (f.busy < 2 ^ 64) × (1 ≤ length f.queue) × (length f.queue ≤ 256) × AreNumbers f.queue
+LineInRange (line.LemmaWords sender value) = (sender ≤ 255) × (value < 2 ^ 128)
+LineInRange line.MainLine = ⊤
+LineInRange (line.InnerLine n) = (1 ≤ n) × (n ≤ 128)
+LineInRange line.BoundLine = ⊤
+LineInRange line.OpenLine = ⊤
+LineInRange (line.FailLine n) = n ≤ 128
+LineInRange (line.AgainstLine label e) = (label ≤ 127) × EvidenceInRange e
+LineInRange line.ShardLine = ⊤
+LineInRange line.JoinLine = ⊤
+LineInRange line.EndLine = ⊤
 
--- the line of a frame: its busy period, and its starts
-abbrev pub frame_of : Option ℕ → Option (List ℕ) → Line
-frame_of None queue = Other
-frame_of (Some busy) None = Other
-frame_of (Some busy) (Some queue) = Frame (record { busy = busy; queue = queue })
+-- the name of a kind
+abbrev pub kind_name : Kind → List ℕ
+kind_name KindPlaced = codes "placed"
+kind_name KindTimed = codes "timed"
+kind_name KindBetween = codes "open"
+kind_name KindBest = codes "best"
+kind_name KindNoSolution = codes "none"
 
--- the line of a frame: the word `frame`, a number and 1 to 256 numbers
-abbrev pub frame_in : List (List ℕ) → Line
-frame_in [] = Other
-frame_in (word ∷ []) = Other
-frame_in (word ∷ busy ∷ queue) = if bytes_eq word (codes "frame") then frame_of (number_of busy) (queue_of queue) else Other
+-- the words of a line of evidence
+abbrev pub evidence_words : ℕ → Evidence → List (List ℕ)
+evidence_words label evidence.Over = codes "over" ∷ map decimal (label ∷ [])
+evidence_words label (evidence.Long b) = codes "long" ∷ map decimal (label ∷ b)
+evidence_words label (evidence.Late q b w) =
+    codes "late" ∷ (map decimal (label ∷ q ∷ b) ++ (codes "/" ∷ map decimal w))
 
--- what a line says
-unfoldable pub line_of : List ℕ → Line
-line_of line =
-    if bytes_eq line (codes "canpack certificate 1") then Head
-    else if bytes_eq line (codes "kind placed") then Placed
-    else if bytes_eq line (codes "kind timed") then Timed
-    else if bytes_eq line (codes "end") then End else frame_in (words line)
+-- the words of a line
+unfoldable pub line_words : Line → List (List ℕ)
+line_words line.FirstLine = codes "canpack" ∷ codes "certificate" ∷ codes "1" ∷ []
+line_words (line.KindLine k) = codes "kind" ∷ kind_name k ∷ []
+line_words (line.FrameWords f) = codes "frame" ∷ map decimal (f.busy ∷ f.queue)
+line_words (line.LemmaWords sender value) = codes "lemma" ∷ map decimal (sender ∷ value ∷ [])
+line_words line.MainLine = codes "main" ∷ []
+line_words (line.InnerLine n) = codes "i" ∷ map decimal (n ∷ [])
+line_words line.BoundLine = codes "b" ∷ []
+line_words line.OpenLine = codes "o" ∷ []
+line_words (line.FailLine n) = codes "f" ∷ map decimal (n ∷ [])
+line_words (line.AgainstLine label e) = evidence_words label e
+line_words line.ShardLine = codes "shard" ∷ []
+line_words line.JoinLine = codes "join" ∷ []
+line_words line.EndLine = codes "end" ∷ []
+
+-- the bytes of a line: its words, with one space between two
+abbrev pub line_text : Line → List ℕ
+line_text l = join_with_byte 32 (line_words l)
+
+-- bytes with LF
+abbrev pub ended : List ℕ → List ℕ
+ended bytes = bytes ++ 10 ∷ []
+
+-- the bytes of lines
+abbrev pub text_of : List Line → List ℕ
+text_of lines = flat_map (λ l. ended (line_text l)) lines

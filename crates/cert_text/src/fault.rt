@@ -6,7 +6,7 @@ use thiserror::Error;
 /// Why a text has no certificate.
 #[derive(Clone, Copy, Debug, Drop, PartialEq, Eq, Error)]
 pub enum CertFault {
-    /// This line, counted from 1, can't stand after the lines before it, or bytes stand there after the line `end`.
+    /// This line, counted from 1, can't stand after the lines before it, or bytes stand there after `end`.
     #[error("line {0} can't stand there")]
     BadLine(u64),
     /// All lines can stand, but the line `end` is missing.

@@ -1,17 +1,24 @@
-//! The text of a certificate: what it says, read and written exactly.
+//! The text of a certificate: its grammar, read and written exactly.
 //!
-//! The one contract that upper crates use is that [`read_cert`] gives exactly the certificate of a text, or its first
-//! refusal, and that what [`write_cert`] wrote is read back.
+//! The contract that upper crates use is that [`read_cert`] gives exactly the certificate of a text, or why it has
+//! none, and that what [`write_cert`] wrote is read back.
 #![tactic(auto)]
 
+mod builder;
 mod cut;
+mod event;
 mod fault;
+mod hearing;
 mod line;
+mod lines;
 mod parts;
+mod position;
 mod reading;
-mod state;
+mod symbol;
+mod words;
 mod writing;
 
+pub use event::Event;
 pub use fault::CertFault;
 pub use parts::{Cert, FrameLine, Kind, Lemma, Refuted, Tree};
 pub use reading::read_cert;

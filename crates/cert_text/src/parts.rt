@@ -1,7 +1,8 @@
 //! What a certificate says.
-ghost use Rattle.std.specs.Prelude.{◌≡◌};
-ghost use Rattle.std.specs.Option.{option_copied};
+ghost use Rattle.std.specs.Prelude.{◌≡◌, map};
+ghost use Rattle.std.specs.Option.{option_copied, option_map};
 ghost use Rattle.cert_text.specs.Parts.{HasParts};
+ghost use Rattle.cert_text.specs.PlainTree.{plain_lemma, plain_of};
 
 use pack_model::Chain;
 use response_test::Evidence;
@@ -104,32 +105,44 @@ pub struct Cert {
 }
 
 impl Model for Cert {
-    ghost use Rattle.std.specs.Prelude.{List};
+    ghost use Rattle.std.specs.Prelude.{map};
+    ghost use Rattle.std.specs.Option.{option_map};
+    ghost use Rattle.std.specs.Coded.{codes};
     ghost use Rattle.cert_text.specs.Parts.{CertParts, HasParts};
+    ghost use Rattle.cert_text.specs.PlainTree.{plain_lemma, plain_of};
+    ghost use Rattle.cert_text.specs.TreeCode.{plain_code};
 
     ghost Value = { CertParts };
 
-    ghost use Rattle.cert_text.specs.contracts.parts.Tree as tree;
-    ghost use Rattle.std.specs.Coded.{codes};
+    ghost coded = { Prim.hlevel (codes, plain_code) };
 
-    ghost coded = { Prim.hlevel (codes, tree.the_row.coded) };
+    ghost view = { λ a. record {
+      kind = a.kind;
+      frames = a.frames.items;
+      lemmas = map plain_lemma a.lemmas.items;
+      main_tree = option_map plain_of a.main_tree;
+    } };
 
-    ghost view = { λ a. record { kind = a.kind; frames = a.frames.items; lemmas = a.lemmas.items; main_tree = a.main_tree } };
-
-    ghost invariant = { λ a. HasParts a.kind a.frames.items a.lemmas.items a.main_tree };
+    ghost invariant = { λ a.
+        HasParts a.kind a.frames.items (map plain_lemma a.lemmas.items) (option_map plain_of a.main_tree) };
 }
 
 impl Cert {
-    /// The certificate of these parts, which are those that the kind has: `KindPlaced` none, `KindTimed` frames, and each
-    /// other kind frames, lemmas and a main tree.
+    /// The certificate of these parts, which are those that the kind has: `KindPlaced` none, `KindTimed` frames, and
+    /// each other kind frames, lemmas and a main tree.
     pub fn of(
         kind: Kind,
         frames: Vec<FrameLine>,
         lemmas: Vec<Lemma>,
         main_tree: Option<Tree>,
     ) -> Cert
-        requires { HasParts kind frames.items lemmas.items main_tree }
-        ensures { result ≡ record { kind = kind; frames = frames.items; lemmas = lemmas.items; main_tree = main_tree } }
+        requires { HasParts kind frames.items (map plain_lemma lemmas.items) (option_map plain_of main_tree) }
+        ensures { result ≡ record {
+          kind = kind;
+          frames = frames.items;
+          lemmas = map plain_lemma lemmas.items;
+          main_tree = option_map plain_of main_tree;
+        } }
     {
         Cert {
             kind,
@@ -157,14 +170,14 @@ impl Cert {
 
     /// The bounds on senders alone.
     pub fn lemmas(&self) -> &[Lemma]
-        ensures { result.now ≡ self.now.lemmas }
+        ensures { map plain_lemma result.now ≡ self.now.lemmas }
     {
         self.lemmas.as_slice()
     }
 
     /// The tree over all groupings.
     pub fn main_tree(&self) -> Option<&Tree>
-        ensures { option_copied result ≡ self.now.main_tree }
+        ensures { option_map plain_of (option_copied result) ≡ self.now.main_tree }
     {
         self.main_tree.as_ref()
     }

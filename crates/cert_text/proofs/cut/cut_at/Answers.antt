@@ -1,6 +1,6 @@
 use Rattle.std.proofs.Common.{◌∙◌, sym}
 use Rattle.std.proofs.lemmas.List.{take_rest}
-use Rattle.cert_text.proofs.Cuts.{cut_none, cut_some}
+use Rattle.cert_text.proofs.CutAt.{cut_none, cut_some}
 use Rattle.cert_text.proofs.cut.cut_at.Goals as goal
 
 pub returns-in_err-place-clause-parts : goal.returns-in_err-place-clause-parts

@@ -1,19 +1,15 @@
-use Rattle.std.proofs.Common.{◌≡◌, ap, subst, ◌∙◌}
-use Rattle.std.specs.Prelude.{All}
-use Rattle.cert_text.specs.CertText.{cert_of_text}
-use Rattle.cert_text.specs.Writing.{NumbersFit, cert_text, kind_text}
-use Rattle.cert_text.proofs.Back.{cert_back}
-use Rattle.cert_text.proofs.Written.{written}
+use Rattle.cert_text.proofs.Fits.{written-bytes, written-text}
+use Rattle.cert_text.proofs.OfText.{of_text-cert}
 use Rattle.cert_text.proofs.writing.write_cert.Goals as goal
 
 pub returns-clause-exact : goal.returns-clause-exact
-returns-clause-exact c =
-    written c.args.cert.now _ _ _ _ _ _ _ c.new-out.ensures.items c.in_ok-put_line.ensures c.in_ok-put_line-2.ensures c.in_ok-put_frames.ensures.text c.in_ok-put_line-3.ensures
-    (c.line_of_kind.ensures ∙ ap kind_text c.kind.ensures.value) c.frames.ensures
+returns-clause-exact c = written-bytes c.args.marks c.args.cert.now c.new-out.result.items c.put_cert.new.out.items c.new-out.ensures.items c.in_ok-put_cert.ensures.lines
+
+pub returns-clause-text : goal.returns-clause-text
+returns-clause-text c =
+    written-text c.args.marks c.args.cert.now c.new-out.result.items c.put_cert.new.out.items c.requires.fits c.in_ok-put_cert.ensures.has_parts c.new-out.ensures.items c.in_ok-put_cert.ensures.lines
 
 pub returns-clause-reads_back : goal.returns-clause-reads_back
 returns-clause-reads_back c =
-    let text : c.put_line-3.new.out.items ≡ cert_text c.args.cert.now =
-    written c.args.cert.now _ _ _ _ _ _ _ c.new-out.ensures.items c.in_ok-put_line.ensures c.in_ok-put_line-2.ensures c.in_ok-put_frames.ensures.text c.in_ok-put_line-3.ensures
-    (c.line_of_kind.ensures ∙ ap kind_text c.kind.ensures.value) c.frames.ensures in
-    ap cert_of_text text ∙ cert_back c.args.cert.now c.requires.kind c.kind.ensures.has_parts c.requires.room (subst (All NumbersFit) c.frames.ensures c.in_ok-put_frames.ensures.fits)
+    of_text-cert c.put_cert.new.out.items c.args.cert.now
+    (written-text c.args.marks c.args.cert.now c.new-out.result.items c.put_cert.new.out.items c.requires.fits c.in_ok-put_cert.ensures.has_parts c.new-out.ensures.items c.in_ok-put_cert.ensures.lines)

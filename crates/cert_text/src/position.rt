@@ -1,0 +1,237 @@
+//! Where a reader stands in a certificate.
+ghost use Rattle.std.specs.Prelude.{◌≡◌, ◌++◌, ◌∷◌, [], OnOk, IfOk, IfSome, Some, None, IsTrue, ◌↔◌, if◌then◌else◌};
+ghost use Rattle.std.specs.Option.{option_map};
+ghost use Rattle.std.specs.Prelude.{◌⊎◌, ◌==◌};
+ghost use Rattle.std.specs.List.{list_all};
+ghost use Rattle.cert_text.specs.declared.symbol.Symbol.TheVariants as symbol;
+ghost use Rattle.cert_text.specs.Grammar.{after, body, expand, marked_tree, start, subtrees};
+ghost use Rattle.cert_text.specs.Pieces.{next_pieces, of_run, pieces};
+
+use crate::line::Line;
+use crate::parts::Kind;
+use crate::symbol::Symbol;
+use pack_model::Memory;
+use std::alloc::Global;
+use std::marker::Model;
+
+/// How many inner nodes may stand on a path.
+const DEEPEST: u32 = 128;
+
+/// Equal pieces after each other.
+#[derive(Clone, Copy, Debug)]
+pub(crate) struct Run {
+    /// The piece.
+    pub symbol: Symbol,
+    /// How often.
+    pub count: u32,
+}
+
+/// What is to come of a piece after its first line.
+#[derive(Clone, Copy, Debug)]
+pub(crate) struct Next {
+    /// What comes first.
+    pub first: Run,
+    /// What comes then.
+    pub second: Run,
+}
+
+/// What is still to come of a certificate after lines.
+#[derive(Debug, Drop)]
+pub(crate) struct Position {
+    runs: Vec<Run>,
+}
+
+impl Model for Position {
+    ghost use Rattle.std.specs.Prelude.{List};
+    ghost use Rattle.cert_text.specs.declared.symbol.Symbol.{Symbol};
+    ghost use Rattle.cert_text.specs.Pieces.{pieces};
+
+    ghost Value = { List Symbol };
+
+    ghost view = { λ a. pieces a.runs.items };
+}
+
+const NO_RUN: Run = Run {
+    symbol: Symbol::End,
+    count: 0,
+};
+
+fn once(symbol: Symbol) -> Run
+    ensures { of_run result ≡ symbol ∷ [] }
+{
+    Run { symbol, count: 1 }
+}
+
+fn nothing() -> Next
+    ensures { next_pieces result ≡ [] }
+{
+    Next {
+        first: NO_RUN,
+        second: NO_RUN,
+    }
+}
+
+fn alone(symbol: Symbol) -> Next
+    ensures { next_pieces result ≡ symbol ∷ [] }
+{
+    Next {
+        first: once(symbol),
+        second: NO_RUN,
+    }
+}
+
+fn both(first: Symbol, second: Symbol) -> Next
+    ensures { next_pieces result ≡ first ∷ second ∷ [] }
+{
+    Next {
+        first: once(first),
+        second: once(second),
+    }
+}
+
+fn times(symbol: Symbol, count: u32) -> Next
+    ensures { next_pieces result ≡ of_run (record { symbol = symbol; count = count }) }
+{
+    Next {
+        first: Run { symbol, count },
+        second: NO_RUN,
+    }
+}
+
+fn body_of(kind: Kind) -> Symbol
+    ensures { result ≡ body kind }
+{
+    match kind {
+        Kind::KindPlaced => Symbol::End,
+        Kind::KindTimed => Symbol::Frames,
+        Kind::KindBetween | Kind::KindBest | Kind::KindNoSolution => Symbol::Parts,
+    }
+}
+
+fn below(marks: bool, depth: u32, count: u32) -> Option<Next>
+    ensures { option_map next_pieces result ≡ subtrees marks depth count }
+{
+    if depth < DEEPEST {
+        Some(times(Symbol::TreeAt(marks, depth + 1), count))
+    } else {
+        None
+    }
+}
+
+fn shard_at(marks: bool, depth: u32) -> Option<Next>
+    ensures { option_map next_pieces result ≡ marked_tree marks depth }
+{
+    if marks {
+        Some(both(Symbol::TreeAt(false, depth), Symbol::Join))
+    } else {
+        None
+    }
+}
+
+// What is to come of a tree after its first line.
+fn tree_next(marks: bool, depth: u32, line: &Line) -> Option<Next>
+    ensures { option_map next_pieces result ≡ expand (symbol.TreeAt marks depth) line.now }
+{
+    match line {
+        Line::InnerLine(count) => below(marks, depth, *count),
+        Line::BoundLine | Line::OpenLine => Some(nothing()),
+        Line::FailLine(count) => Some(times(Symbol::Against, *count)),
+        Line::ShardLine => shard_at(marks, depth),
+        _ => None,
+    }
+}
+
+// What is to come of a piece after this line, None where no such piece begins with it.
+fn next_of(symbol: Symbol, line: &Line) -> Option<Next>
+    ensures { option_map next_pieces result ≡ expand symbol line.now }
+{
+    match (symbol, line) {
+        (Symbol::TreeAt(marks, depth), line) => tree_next(marks, depth, line),
+        (Symbol::First, Line::FirstLine) => Some(nothing()),
+        (Symbol::FromKind, Line::KindLine(kind)) => Some(alone(body_of(*kind))),
+        (Symbol::Frames, Line::FrameWords(_)) => Some(alone(Symbol::Frames)),
+        (Symbol::Frames, Line::EndLine) => Some(nothing()),
+        (Symbol::Parts, Line::FrameWords(_)) => Some(alone(Symbol::Parts)),
+        (Symbol::Parts | Symbol::Lemmas, Line::LemmaWords { .. }) => {
+            Some(both(Symbol::TreeAt(true, 0), Symbol::Lemmas))
+        }
+        (Symbol::Parts | Symbol::Lemmas, Line::MainLine) => {
+            Some(both(Symbol::TreeAt(true, 0), Symbol::End))
+        }
+        (Symbol::Against, Line::AgainstLine(_, _)) => Some(nothing()),
+        (Symbol::Join, Line::JoinLine) => Some(nothing()),
+        (Symbol::End, Line::EndLine) => Some(nothing()),
+        _ => None,
+    }
+}
+
+// Puts pieces before those to come.
+fn put(runs: &mut Vec<Run>, run: Run) -> Result<(), Memory>
+    ensures { OnOk result (pieces runs.new.items ≡ of_run run ++ pieces runs.old.items) }
+{
+    if run.count > 0 {
+        runs.push(run)?;
+    }
+    Ok(())
+}
+
+// Takes the next piece, if there is one.
+fn take_first(runs: &mut Vec<Run>) -> Result<Option<Symbol>, Memory>
+    ensures none { IfOk result (λ s. s ≡ None → pieces runs.old.items ≡ []) }
+    ensures some { IfOk result (λ s. IfSome s (λ x. pieces runs.old.items ≡ x ∷ pieces runs.new.items)) }
+{
+    while let Some(run) = runs.pop() {
+        if run.count > 0 {
+            put(
+                runs,
+                Run {
+                    symbol: run.symbol,
+                    count: run.count - 1,
+                },
+            )?;
+            return Ok(Some(run.symbol));
+        }
+    }
+    Ok(None)
+}
+
+fn no_pieces(runs: &[Run]) -> bool
+    ensures { result ≡ list_all (λ r. r.count == 0) runs.now }
+{
+    runs.iter().all(|run| run.count == 0)
+}
+
+impl Position {
+    /// The position before the first line.
+    pub fn new(alloc: Global) -> Result<Position, Memory>
+        ensures { IfOk result (λ p. p ≡ start) }
+    {
+        let mut runs = Vec::new(alloc);
+        put(&mut runs, once(Symbol::FromKind))?;
+        put(&mut runs, once(Symbol::First))?;
+        Ok(Position { runs })
+    }
+
+    /// Goes past a line. False exactly where it can't stand; what is to come isn't known then.
+    pub fn take(&mut self, line: &Line) -> Result<bool, Memory>
+        ensures taken { IfOk result (λ can. IsTrue can → after self.old line.now ≡ Some self.new) }
+        ensures refused { IfOk result (λ can. IsTrue can ⊎ (after self.old line.now ≡ None)) }
+    {
+        let Some(symbol) = take_first(&mut self.runs)? else {
+            return Ok(false);
+        };
+        let Some(next) = next_of(symbol, line) else {
+            return Ok(false);
+        };
+        put(&mut self.runs, next.second)?;
+        put(&mut self.runs, next.first)?;
+        Ok(true)
+    }
+
+    /// Whether nothing is to come any more.
+    pub fn ended(&self) -> bool
+        ensures { IsTrue result ↔ (self.now ≡ []) }
+    {
+        no_pieces(&self.runs)
+    }
+}
