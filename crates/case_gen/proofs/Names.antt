@@ -1,5 +1,5 @@
 -- Letters and a number are a name.
-use Rattle.std.proofs.Common.{◌≡◌, ℕ, ◌+◌, ◌%◌, ◌<◌, ◌≤◌, ◌^◌, ◌&&◌, true, IsTrue, List, [], ◌∷◌, ◌++◌, length, nat_le, refl, sym, ◌∙◌, ap, arith, decimal, length-append}
+use Rattle.std.proofs.Common.{◌≡◌, ℕ, ◌+◌, ◌%◌, ◌<◌, ◌≤◌, ◌^◌, ◌&&◌, true, IsTrue, List, [], ◌∷◌, ◌++◌, length, ◌∙◌, ap, arith, decimal, length-append}
 use Rattle.std.specs.List.{list_all}
 use Rattle.std.proofs.lemmas.Bool.{le-leb}
 use Rattle.std.proofs.lemmas.Fmt.{decimal_by_steps, decimal_nonempty, length-decimal-le}

@@ -1,11 +1,10 @@
 -- Laws of chains and climbs.
-use Rattle.std.proofs.Common.{◌≡◌, ℕ, ◌+◌, ◌-◌, ◌*◌, ◌<◌, ◌≤◌, ◌^◌, zero, suc, inl, inr, List, [], ◌∷◌, ◌++◌, length, get_or, min, refl, sym, ◌∙◌, take, ap, arith, length-append, add-zero}
-use Rattle.std.proofs.lemmas.Bool.{cases_lt}
+use Rattle.std.proofs.Common.{◌≡◌, ℕ, ◌+◌, ◌-◌, ◌*◌, ◌<◌, ◌≤◌, zero, suc, List, length, get_or, take, ap, arith, add-zero}
 use Rattle.busy_period.specs.declared.timed.Timed.{Timed}
 use Rattle.busy_period.specs.Stage.{own_of, lower_of}
 use Rattle.busy_period.specs.Demand.{work_of, blocking_of, demand_of}
 use Rattle.busy_period.proofs.Stages.{work-own}
-use Rattle.response_test.specs.Chain.{IsChain, IsClimb, last_of}
+use Rattle.response_test.specs.Chain.{IsChain, last_of}
 
 -- a climb that has come so far
 pub record IsClimbing (demand : ℕ → ℕ) (first until : ℕ) (times : List ℕ) (time : ℕ) : Type 0 where
@@ -43,14 +42,3 @@ pub level_demand : (frames : List Timed) (order : List ℕ) (place base : ℕ) �
     → (time : ℕ) → base + work_of frames (take (place + 1) order) (time + 0) ≡ demand_of frames order place time
 level_demand frames order place base inside same time =
     omega (arith, same, work-own frames order place time inside, ap (work_of frames (take (place + 1) order)) (add-zero time))
-
--- demands that agree have the same chains
-pub chain_along : (demand demand' : ℕ → ℕ) (first : ℕ) (times : List ℕ) → ((time : ℕ) → demand time ≡ demand' time)
-    → IsChain demand first times → IsChain demand' first times
-chain_along demand demand' first times same chain =
-    record {
-      some = chain.some;
-      begins = chain.begins;
-      climbs = λ k inside. omega (arith, chain.climbs k inside, same (get_or times k 0));
-      low = chain.low;
-    }

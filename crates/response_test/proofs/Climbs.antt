@@ -1,7 +1,6 @@
 -- The climbs that make evidence are chains, and reach as far as it needs.
-use Rattle.std.proofs.Common.{◌≡◌, ℕ, ◌+◌, ◌-◌, ◌*◌, ◌<◌, ◌≤◌, ◌^◌, zero, suc, inl, inr, List, length, get_or, min, subst, ap, arith}
+use Rattle.std.proofs.Common.{◌≡◌, ℕ, ◌+◌, ◌-◌, ◌<◌, ◌≤◌, ◌^◌, zero, suc, inl, inr, List, length, get_or, min, subst, ap, arith}
 use Rattle.std.proofs.lemmas.Bool.{cases_lt}
-use Rattle.std.proofs.lemmas.Grind.{div_ceil_times}
 use Rattle.busy_period.specs.declared.timed.Timed.{Timed}
 use Rattle.busy_period.specs.Timed.{IsInRange}
 use Rattle.busy_period.specs.Stage.{IsStage, own_number, own_of, higher_of, lower_of}
@@ -11,9 +10,9 @@ use Rattle.busy_period.proofs.Instances.{below_quotient}
 use Rattle.busy_period.proofs.Least.{least_unique}
 use Rattle.busy_period.proofs.Stages.{demand-le, own_is_in_range}
 use Rattle.response_test.specs.Queueing.{IsBit, queueing_of}
-use Rattle.response_test.specs.Passing.{CanStart, InstancePasses}
+use Rattle.response_test.specs.Passing.{CanStart}
 use Rattle.response_test.specs.Frame.{FramePasses, HasInstance}
-use Rattle.response_test.specs.Chain.{IsChain, IsClimb, last_of}
+use Rattle.response_test.specs.Chain.{IsChain, IsClimb}
 use Rattle.response_test.specs.Refuted.{IsFirstLate, IsLong, IsLongClimb, first_long, first_with, first_late}
 use Rattle.response_test.proofs.Chains.{chain-le}
 use Rattle.response_test.proofs.Starts.{queueing-le}

@@ -1,5 +1,5 @@
 -- A stage has one evidence.
-use Rattle.std.proofs.Common.{◌≡◌, ℕ, ◌+◌, ◌-◌, ◌<◌, ◌≤◌, zero, suc, inl, inr, List, length, get_or, refl, sym, ap, subst, arith}
+use Rattle.std.proofs.Common.{◌≡◌, ℕ, ◌+◌, ◌-◌, ◌<◌, ◌≤◌, zero, suc, inl, inr, List, length, get_or, refl, ap, subst, arith}
 use Rattle.std.proofs.lemmas.Bool.{cases_lt}
 use Rattle.std.proofs.lemmas.List.{ext_get_or}
 use Rattle.busy_period.specs.declared.timed.Timed.{Timed}
@@ -8,7 +8,7 @@ use Rattle.response_test.specs.declared.evidence.Evidence.{Evidence}
 use Rattle.response_test.specs.declared.evidence.Evidence.TheVariants.{Over, Long, Late}
 use Rattle.response_test.specs.Queueing.{queueing_of}
 use Rattle.response_test.specs.Frame.{HasInstance}
-use Rattle.response_test.specs.Chain.{IsClimb, last_of}
+use Rattle.response_test.specs.Chain.{IsClimb}
 use Rattle.response_test.specs.Refuted.{IsFirstLate, IsLongOf, IsLateOf, IsEvidenceOfStage, first_with, first_late}
 
 -- two climbs have the same times

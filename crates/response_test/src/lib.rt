@@ -5,7 +5,8 @@
 //! whatever lower frame blocks it and whichever higher ones come first. A call takes a stage of `busy_period` and the
 //! time of a nominal bit, which is at least 1 and at most the ticks of each frame. All times are whole ticks.
 //!
-//! No call takes memory, and each returns for every stage.
+//! Evidence that a frame fails can be found, and judged by its numbers alone. No call but `evidence_of` takes memory, and
+//! each returns for every stage.
 #![tactic(auto)]
 
 mod chain;

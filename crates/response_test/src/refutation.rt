@@ -1,5 +1,5 @@
 //! Whether evidence stands, by its numbers alone.
-ghost use Rattle.std.specs.Prelude.{ℕ, ◌≤◌, ◌↔◌, ◌≡◌, ◌<◌, ◌*◌, IsTrue, List};
+ghost use Rattle.std.specs.Prelude.{◌≡◌, ◌↔◌, ℕ, IsTrue, List};
 ghost use Rattle.busy_period.specs.Stage.{AreNamed, IsStage};
 ghost use Rattle.busy_period.specs.declared.timed.Timed.{Timed};
 ghost use Rattle.response_test.specs.Queueing.{IsBit};

@@ -8,7 +8,8 @@ ghost use Rattle.response_test.specs.declared.evidence.Evidence.{Evidence};
 ghost use Rattle.response_test.specs.Chain.{IsChain, IsClimb, first_above};
 ghost use Rattle.response_test.specs.Queueing.{IsBit, queueing_of};
 ghost use Rattle.response_test.specs.Frame.{FrameInstancePasses, FramePasses, HasInstance};
-ghost use Rattle.response_test.specs.Refuted.{IsCommon, IsFirstLate, IsEvidenceOfStage, IsLong, IsLongClimb, Refuted, first_late, first_with};
+ghost use Rattle.response_test.specs.Refuted.{IsCommon, IsEvidenceOfStage, IsFirstLate, IsLong, IsLongClimb};
+ghost use Rattle.response_test.specs.Refuted.{Refuted, first_late, first_with};
 
 use crate::chain::{MAX_TIME, level_climb, queue_climb};
 use crate::evidence::Evidence;
