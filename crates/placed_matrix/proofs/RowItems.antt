@@ -115,8 +115,7 @@ module _ (problem : Parts) (stands : IsProblem problem) (sorted : IsSorted probl
       let pdus = subst (λ (i : Item). All (λ m. (d : Signal) → (get_or problem.signals m d).pdu ≡ i.pdu) i.members) (sym at) (members_pdu problem.signals problem.items sorted n item lt) in
       let some : 0 < length item.members = omega (arith, ap length of.members) in
       let pdu : (get_or problem.signals of.place of.signal).pdu ≡ item.pdu = ap (λ m. (get_or problem.signals m of.signal).pdu) (sym first) ∙ pdus 0 0 some of.signal in
-      let says = row_says of.place of.signal row of.within in
-      (
+      let says = row_says of.place of.signal row of.within in (
         row,
         record {
           number = slice_index row_of of.place;

@@ -7,8 +7,8 @@ ghost use Rattle.matrix_rows.specs.Row.{RowInRange};
 ghost use Rattle.placed_matrix.specs.Tables.{AllFound, AtOnePlace, FirstFound, HasRows, RowsOf, SameFrameAndKind, SamePart, StandTogether};
 
 use crate::frames::first_row;
-use matrix_rows::MatrixRow;
 use container_pdu::Header;
+use matrix_rows::MatrixRow;
 use pack_model::{Item, Problem};
 
 /// No row, in a table from identifiers to rows.

@@ -8,11 +8,11 @@ ghost use Rattle.matrix_rows.specs.Row.{RowInRange};
 ghost use Rattle.placed_matrix.specs.Tables.{AllFound, AtOnePlace, HasRows, InPart, BeginsAfter, MeetsFigures, RowFits, RowMeets, RowsOf, SamePart, bytes_of_part, bytes_under, parts_before};
 
 use crate::frames::first_row;
-use matrix_rows::MatrixRow;
 use crate::tally::tally_of;
 use container_pdu::Header;
 use fd_length::fd_size;
 use frame_ticks::worst_ticks;
+use matrix_rows::MatrixRow;
 use pack_model::{Network, Problem};
 
 /// What the rows of one part must agree with.

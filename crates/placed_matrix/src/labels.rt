@@ -9,9 +9,9 @@ ghost use Rattle.placed_matrix.specs.Placed.{Placed};
 use crate::checks::{frames_agree, parts_agree};
 use crate::fits::rows_fit;
 use crate::frames::{number_frames, put_in_order};
-use matrix_rows::Matrix;
 use crate::overlap::are_apart;
 use crate::signal_rows::find_rows;
+use matrix_rows::Matrix;
 use pack_model::Problem;
 
 /// The grouping of a placed matrix: its number of frames, each item's label in `labels`, and the

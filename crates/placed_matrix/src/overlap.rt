@@ -4,8 +4,8 @@ ghost use Rattle.ipdu_layout.specs.Layout.{IsApart};
 ghost use Rattle.placed_matrix.specs.Placed.{place_of};
 ghost use Rattle.placed_matrix.specs.Tables.{LabelsApart, place_among};
 
-use matrix_rows::MatrixRow;
 use ipdu_layout::{Place, mark};
+use matrix_rows::MatrixRow;
 
 /// The positions of 128 frames of 64 bytes.
 const POSITIONS: usize = 65536;

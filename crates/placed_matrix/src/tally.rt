@@ -7,8 +7,8 @@ ghost use Rattle.matrix_rows.specs.Row.{RowInRange};
 ghost use Rattle.placed_matrix.specs.Tables.{HasRows, IsTally, TallyWithin, is_short};
 
 use crate::frames::first_row;
-use matrix_rows::MatrixRow;
 use container_pdu::Header;
+use matrix_rows::MatrixRow;
 use pack_model::{Item, Problem};
 
 /// What items in one frame are together.
