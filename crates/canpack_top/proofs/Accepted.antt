@@ -29,10 +29,12 @@ same_network : (before now : Files) (name : List ℕ) → file_at now name ≡ f
 unfolding network_at
 same_network before now name same = ap (λ (file : Option (List ℕ)). within text_limit role.Network (unwrap_or file []) >>= network_in) same
 
+-- the same of signals
 same_signals : (before now : Files) (name : List ℕ) → file_at now name ≡ file_at before name → signals_at now name ≡ signals_at before name
 unfolding signals_at
 same_signals before now name same = ap (λ (file : Option (List ℕ)). within text_limit role.Signals (unwrap_or file []) >>= signals_in) same
 
+-- the same of the problem of two files
 same_problem : (names : Names) (before now : Files) → file_at now names.network ≡ file_at before names.network → file_at now names.signals ≡ file_at before names.signals → problem_at names now ≡ problem_at names before
 unfolding problem_at
 same_problem names before now network signals = rw (same_network before now names.network network, same_signals before now names.signals signals) refl

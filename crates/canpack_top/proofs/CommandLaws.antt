@@ -33,17 +33,19 @@ pub of_words : (words : List (String Global)) (given : Command) (P : Meaning →
     → OfCommand words P → P (meaning_of given words)
 of_words words given P is holds = subst (λ o. IsSomeAnd o (λ c. P (meaning_of c words))) is holds
 
--- the number of a status tells it
+-- status 0 is that of a command that is done
 done_number : (given : Status) → 0 ≡ number_of given → given ≡ status.Done
 done_number status.Done is = refl
 done_number status.Refused is = absurd (omega arith)
 done_number status.Rejected is = absurd (omega arith)
 
+-- status 5 is that of a rejection
 rejected_number : (given : Status) → 5 ≡ number_of given → given ≡ status.Rejected
 rejected_number status.Done is = absurd (omega arith)
 rejected_number status.Refused is = absurd (omega arith)
 rejected_number status.Rejected is = refl
 
+-- status 4 is that of a refusal
 refused_number : (given : Status) → 4 ≡ number_of given → given ≡ status.Refused
 refused_number status.Done is = absurd (omega arith)
 refused_number status.Refused is = refl
@@ -67,12 +69,13 @@ exclusive judged shown part.Matrix holds fails = fails holds.rule.matrix
 exclusive judged shown part.Timing holds fails = fails.1 holds.rule.timing
 exclusive judged shown part.Tree holds fails = fails.2 holds.rule.tree
 
--- an answer with status 0 is that of a verdict, and one with status 5 that of a part that fails
+-- where the answer says that `check` is done, the acceptance rule holds
 accepted_of : (answer : Answer) (judged : Judged) (what : Found) → answer.status ≡ status.Done → Finds what judged
     → answer ≡ check_answer judged.problem.hyper what → IsAccepted judged
 accepted_of answer judged (found.Shown shown) done finds is = (shown, finds)
 accepted_of answer judged (found.Rejected failed) done finds is = let h : status.Rejected ≡ status.Done = sym (ap (λ a. a.status) is) ∙ done in cc
 
+-- where the answer says that `check` rejects, a part of the acceptance rule fails first
 rejected_of : (answer : Answer) (judged : Judged) (what : Found) → answer.status ≡ status.Rejected → Finds what judged
     → answer ≡ check_answer judged.problem.hyper what → IsRejected judged
 rejected_of answer judged (found.Shown shown) done finds is = let h : status.Done ≡ status.Rejected = sym (ap (λ a. a.status) is) ∙ done in cc
@@ -135,7 +138,8 @@ own_of : (words : List (String Global)) (before now : Files) (given : Command) (
 own_of words before now given due answer is has_status other ends = record {
   answer = answer;
   has_status = has_status;
-  finishes = own _ before now answer (λ h. other (sym has_status ∙ h)) (of_words words given (λ m. Ends m before now answer) is ends) }
+  finishes = own _ before now answer (λ h. other (sym has_status ∙ h)) (of_words words given (λ m. Ends m before now answer) is ends);
+}
 
 module _ {words : List (String Global)} {before now : Files} {said_before said_now : Option (List ℕ)} {number : ℕ}
     (called : Called words before now said_before said_now number) where
@@ -158,19 +162,22 @@ module _ {words : List (String Global)} {before now : Files} {said_before said_n
       some_and (command_of words) _ _
       (λ c ends. refusing (meaning_of c words) before now all.0 (refused_number all.0.status (sym four ∙ all.1)) told ends) all.2
 
-  -- `check` accepts at status 0, and all that follows from the acceptance rule holds
+  -- `check` accepts at status 0
   pub check_accepted : number ≡ 0 → IsSome before → IsCheck words → Accepts (names_in words) before
   check_accepted zero told check =
       let all : Own (check_meaning (names_in words)) before now status.Done = done _ check.1 zero in
       ok_and (texts_at (names_in words) before) _ _ (λ judged h. accepted_of all.answer judged h.0 all.has_status h.1 h.2) (all.finishes.answers told)
 
+  -- all that follows from the acceptance rule holds at status 0 of `check`
   check_all : number ≡ 0 → IsSome before → IsCheck words → HasAll (names_in words) before
   check_all zero told check =
       let all : Own (check_meaning (names_in words)) before now status.Done = done _ check.1 zero in all.finishes.shows told all.has_status
 
+  -- each signal has one place of its own then
   pub check_one_place : number ≡ 0 → IsSome before → IsCheck words → HasOnePlace (names_in words) before
   check_one_place zero told check = ok_and (texts_at (names_in words) before) Holds _ (λ judged all. all.one_place) (check_all zero told check)
 
+  -- the frames pass then, where the certificate is of kind `timed`
   pub check_passes : number ≡ 0 → IsSome before → IsCheck words → HasPassing (names_in words) before
   check_passes zero told check = ok_and (texts_at (names_in words) before) Holds _ (λ judged all. all.passes) (check_all zero told check)
 
@@ -180,11 +187,12 @@ module _ {words : List (String Global)} {before now : Files} {said_before said_n
       let all : Own (check_meaning (names_in words)) before now status.Rejected = rejects _ check.1 five in
       ok_and (texts_at (names_in words) before) _ _ (λ judged h. rejected_of all.answer judged h.0 all.has_status h.1 h.2) (all.finishes.answers told)
 
-  -- `plan` has written at status 0, and `check` accepts what it wrote
+  -- `plan` has written at status 0
   pub plan_done : number ≡ 0 → IsSome before → IsPlan words → IsPlanned (names_in words) before now
   plan_done zero told plan =
       let all : Own (plan_meaning (names_in words)) before now status.Done = done _ plan.2 zero in all.finishes.leaves told
 
+  -- `check` accepts what `plan` wrote at status 0
   pub plan_accepted : number ≡ 0 → IsSome before → IsPlan words → Accepts (names_in words) now
   plan_accepted zero told plan =
       let all : Own (plan_meaning (names_in words)) before now status.Done = done _ plan.2 zero in all.finishes.shows told
@@ -198,10 +206,12 @@ module _ {words : List (String Global)} {before now : Files} {said_before said_n
   -- where the words are the line of a command, its status is that of an answer, or excused
   by_status : {G : Type 0} → (IsNone (command_of words) → ⊥) → (number ≡ 0 → G) → (number ≡ 4 → G) → (number ≡ 5 → G) → (IsExcused number → G) → G
   by_status {G = G} some at_done at_refused at_rejected excused = elim called.statuses [
-      inl one ↦ absurd (some (called.usage one))
+    | inl one ↦ absurd (some (called.usage one))
     | inr rest ↦ elim rest [
-        inl answered ↦ elim answered [ inl zero ↦ at_done zero | inr more ↦ elim more [ inl four ↦ at_refused four | inr five ↦ at_rejected five ] ]
-      | inr is ↦ excused is ] ]
+      | inl answered ↦ elim answered [ inl zero ↦ at_done zero | inr more ↦ elim more [ inl four ↦ at_refused four | inr five ↦ at_rejected five ] ]
+      | inr is ↦ excused is
+    ]
+  ]
 
   -- a text that the command refuses doesn't stand
   refused_at : (given : Command) → command_of words ≡ Some given → IsSome before → number ≡ 4 → IsRefused before (meaning_of given words)
@@ -222,7 +232,7 @@ module _ {words : List (String Global)} {before now : Files} {said_before said_n
       (λ five. absurd (not_own (inr (inr five)) status.Rejected (rejected_number _ (sym five ∙ (called.answered (inr (inr five))).1)) (λ h. cc) told refused))
       inr
 
-  -- `check` accepts
+  -- where the acceptance rule holds `check` has status 0, or is excused
   pub check_accepts : IsSome before → IsCheck words → Accepts (names_in words) before → (number ≡ 0) ⊎ IsExcused number
   check_accepts told check accepts = by_status (is_there (command_of words) _ check.1)
       inl
@@ -231,7 +241,7 @@ module _ {words : List (String Global)} {before now : Files} {said_before said_n
       (λ judged holds fails. exclusive judged holds.0 fails.0 holds.1 fails.1) accepts (check_rejected five told check)))
       inr
 
-  -- `check` rejects texts that stand and that it doesn't accept
+  -- texts that stand and aren't accepted have status 5, or are excused
   pub check_rejects : IsSome before → IsCheck words → IsOk (texts_at (names_in words) before) → (Accepts (names_in words) before → ⊥)
       → (number ≡ 5) ⊎ IsExcused number
   check_rejects told check stand refused = by_status (is_there (command_of words) _ check.1)
@@ -240,7 +250,7 @@ module _ {words : List (String Global)} {before now : Files} {said_before said_n
       inl
       inr
 
-  -- `plan` is done
+  -- where there is a problem `plan` has status 0, or is excused
   pub plan_plans : IsSome before → IsPlan words → IsOk (problem_at (names_in words) before) → (number ≡ 0) ⊎ IsExcused number
   plan_plans told plan stands = by_status (is_there (command_of words) _ plan.2)
       inl

@@ -9,6 +9,7 @@ use Rattle.canpack_top.specs.Commands.{meaning_of}
 use Rattle.canpack_top.specs.Ending.{number_of}
 use Rattle.canpack_top.specs.Meaning.{Answer, Ends}
 
+-- 7 is the status of no answer
 seven : (number : ℕ) → number ≡ 7 → IsAnswered number → ⊥
 seven number is (inl done) = omega arith
 seven number is (inr (inl refused)) = omega arith
