@@ -2,7 +2,7 @@
 """Times `assign` of priority_assign on 8, 32 and 128 frames at loads of 0.5, 0.8 and 0.95.
 
 usage: assign_times.py      in the repository, with `rt` on the path
-It builds assign_times.rt as a program beside copies of the crates that it stands on, in a folder of its own, and runs it without
+It builds assign_times.program as a program beside copies of the crates that it stands on, in a folder of its own, and runs it without
 a proof. It prints the time of one call and whether all frames got a place.
 """
 import os
@@ -26,7 +26,7 @@ def main():
             there = os.path.join(top, "crates", name)
             if name == "assign_times":
                 os.makedirs(os.path.join(there, "src"))
-                shutil.copy(os.path.join(bench, "assign_times.rt"), os.path.join(there, "src", "main.rt"))
+                shutil.copy(os.path.join(bench, "assign_times.program"), os.path.join(there, "src", "main.rt"))
             else:
                 shutil.copytree(os.path.join(bench, "..", "crates", name), there, symlinks=True)
         with open(os.path.join(top, "crates.txt"), "w") as out:
