@@ -3,9 +3,7 @@ use Rattle.std.proofs.Common.{◌≡◌, ◌≢◌, ◌∙◌, ◌⊎◌, ℕ, L
 use Rattle.std.specs.Result.{result_err}
 use Rattle.std.specs.declared.alloc.Global.{Global}
 use Rattle.pack_base.specs.Outside.{Files}
-use Rattle.cert_text.specs.declared.parts.Kind.TheVariants.{KindPlaced, KindTimed}
 use Rattle.bandwidth_bound.specs.declared.verdict.Verdict.{Verdict}
-use Rattle.bandwidth_bound.specs.declared.verdict.Verdict.TheVariants as verdict
 use Rattle.canpack_top.specs.declared.command.Command.{Command}
 use Rattle.canpack_top.specs.declared.ending.Status.{Status}
 use Rattle.canpack_top.specs.declared.ending.Status.TheVariants as status
@@ -135,7 +133,8 @@ own_of : (words : List (String Global)) (before now : Files) (given : Command) (
 own_of words before now given due answer is has_status other ends = record {
   answer = answer;
   has_status = has_status;
-  finishes = own _ before now answer (λ h. other (sym has_status ∙ h)) (of_words words given (λ m. Ends m before now answer) is ends) }
+  finishes = own _ before now answer (λ h. other (sym has_status ∙ h)) (of_words words given (λ m. Ends m before now answer) is ends);
+}
 
 module _ {words : List (String Global)} {before now : Files} {said_before said_now : Option (List ℕ)} {number : ℕ}
     (called : Called words before now said_before said_now number) where
@@ -198,10 +197,12 @@ module _ {words : List (String Global)} {before now : Files} {said_before said_n
   -- where the words are the line of a command, its status is that of an answer, or excused
   by_status : {G : Type 0} → (IsNone (command_of words) → ⊥) → (number ≡ 0 → G) → (number ≡ 4 → G) → (number ≡ 5 → G) → (IsExcused number → G) → G
   by_status {G = G} some at_done at_refused at_rejected excused = elim called.statuses [
-      inl one ↦ absurd (some (called.usage one))
+    | inl one ↦ absurd (some (called.usage one))
     | inr rest ↦ elim rest [
-        inl answered ↦ elim answered [ inl zero ↦ at_done zero | inr more ↦ elim more [ inl four ↦ at_refused four | inr five ↦ at_rejected five ] ]
-      | inr is ↦ excused is ] ]
+      | inl answered ↦ elim answered [ inl zero ↦ at_done zero | inr more ↦ elim more [ inl four ↦ at_refused four | inr five ↦ at_rejected five ] ]
+      | inr is ↦ excused is
+    ]
+  ]
 
   -- a text that the command refuses doesn't stand
   refused_at : (given : Command) → command_of words ≡ Some given → IsSome before → number ≡ 4 → IsRefused before (meaning_of given words)

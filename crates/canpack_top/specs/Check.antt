@@ -74,7 +74,8 @@ check_meaning names = record {
   Answers = λ files answer. IsOkAnd (texts_at names files) (IsAnswerOf answer);
   Leaves = λ answer before now. now ≡ before;
   LeavesPart = λ before now. ⊥;
-  Shows = λ answer before now. answer.status ≡ status.Done → HasAll names before }
+  Shows = λ answer before now. answer.status ≡ status.Done → HasAll names before;
+}
 
 -- what was found of four files is what their texts say, a read fault and want of memory aside
 abbrev pub IsJudgement : Result Judgement Stop → Names → Files → Type 0

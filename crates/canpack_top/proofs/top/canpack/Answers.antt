@@ -1,6 +1,18 @@
 use Rattle.canpack_top.proofs.CommandLaws.{
-  Called, check_accepted, check_accepts, check_idle, check_one_place, check_passes, check_rejected, check_rejects, plan_accepted, plan_done,
-  plan_plans, refused_text, text_refused}
+  Called,
+  check_accepted,
+  check_accepts,
+  check_idle,
+  check_one_place,
+  check_passes,
+  check_rejected,
+  check_rejects,
+  plan_accepted,
+  plan_done,
+  plan_plans,
+  refused_text,
+  text_refused,
+}
 use Rattle.canpack_top.proofs.top.canpack.Goals as goal
 
 pub returns-clause-refused : goal.returns-clause-refused
