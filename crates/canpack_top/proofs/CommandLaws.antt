@@ -3,9 +3,7 @@ use Rattle.std.proofs.Common.{◌≡◌, ◌≢◌, ◌∙◌, ◌⊎◌, ℕ, L
 use Rattle.std.specs.Result.{result_err}
 use Rattle.std.specs.declared.alloc.Global.{Global}
 use Rattle.pack_base.specs.Outside.{Files}
-use Rattle.cert_text.specs.declared.parts.Kind.TheVariants.{KindPlaced, KindTimed}
 use Rattle.bandwidth_bound.specs.declared.verdict.Verdict.{Verdict}
-use Rattle.bandwidth_bound.specs.declared.verdict.Verdict.TheVariants as verdict
 use Rattle.canpack_top.specs.declared.command.Command.{Command}
 use Rattle.canpack_top.specs.declared.ending.Status.{Status}
 use Rattle.canpack_top.specs.declared.ending.Status.TheVariants as status
