@@ -1,5 +1,5 @@
 -- What is planned and written is accepted.
-use Rattle.std.proofs.Common.{◌≡◌, ◌≢◌, ◌≤◌, ℕ, false, List, [], length, Option, Some, Ok, IsSome, All, refl, ap, inl, ◌∙◌, arith}
+use Rattle.std.proofs.Common.{◌≡◌, ◌≢◌, ◌≤◌, ℕ, false, List, [], length, Option, None, Some, Ok, IsSome, refl, ap, ◌∙◌, arith}
 use Rattle.std.specs.Prelude.{unwrap_or, nat_lt}
 use Rattle.std.proofs.lemmas.Bool.{le-ltb}
 use Rattle.csv_table.specs.Columns.{◌>>=◌}
@@ -8,9 +8,12 @@ use Rattle.pack_model.specs.Problem.{Parts}
 use Rattle.matrix_rows.specs.declared.matrix.MatrixRow.{MatrixRow}
 use Rattle.matrix_text.specs.MatrixText.{MatrixText}
 use Rattle.matrix_text.specs.Placed.{Placed}
-use Rattle.cert_text.specs.CertText.{cert_of_text, placed_parts}
-use Rattle.cert_text.specs.Writing.{HasRoom, NumbersFit, cert_text}
-use Rattle.cert_text.proofs.Back.{cert_back}
+use Rattle.cert_text.specs.declared.parts.Kind.TheVariants.{KindPlaced}
+use Rattle.cert_text.specs.CertText.{CertText}
+use Rattle.cert_text.specs.Lines.{line_words}
+use Rattle.cert_text.specs.Parts.{placed_parts}
+use Rattle.cert_text.specs.Reading.{cert_of_text}
+use Rattle.cert_text.proofs.OfText.{of_text-cert}
 use Rattle.bandwidth_bound.specs.declared.verdict.Verdict.TheVariants as verdict
 use Rattle.canpack_top.specs.declared.refusal.Role.TheVariants as role
 use Rattle.canpack_top.specs.Check.{Accepts, texts_at}
@@ -46,13 +49,22 @@ file_matrix files name text rows holds small reads =
     let fits : nat_lt size_limit (length text) ≡ false = le-ltb size_limit (length text) small in
     rw (holds, fits) reads
 
--- the text of the certificate of kind `placed` is read as it
+-- the text of the certificate of kind `placed` is that of its lines
+placed_text : CertText placed_cert placed_parts
+unfolding line_words
+placed_text = record {
+  marked = record { kind = KindPlaced; frames = []; lemmas = []; main_tree = None };
+  in_range = record {
+      stands = record { parts = (refl, refl, refl); lemmas_stand = tt; main_stands = tt };
+      numbers = (tt, (tt, (tt, tt)));
+    };
+  unmarked = refl;
+  text = refl;
+}
+
+-- it is read as it
 placed_read : cert_of_text placed_cert ≡ Ok placed_parts
-unfolding cert_text
-placed_read =
-    let room : All HasRoom [] = grind arith in
-    let fits : All NumbersFit [] = grind arith in
-    cert_back placed_parts (inl refl) (refl, refl, refl) room fits
+placed_read = of_text-cert placed_cert placed_parts placed_text
 
 -- a file with this text is the certificate of kind `placed`
 file_cert : (files : Files) (name : List ℕ) → file_at files name ≡ Some placed_cert → cert_at files name ≡ Ok placed_parts

@@ -10,9 +10,10 @@ use Rattle.matrix_rows.specs.declared.matrix.MatrixRow.{MatrixRow}
 use Rattle.input_text.specs.NetworkText.{NetworkRefusal, bad_member, network_of, not_json}
 use Rattle.input_text.specs.SignalsText.{SignalsRefusal, signals_of}
 use Rattle.input_text.specs.SignalsText as signals
-use Rattle.cert_text.specs.CertText.{CertRefusal, cert_of_text}
+use Rattle.cert_text.specs.CertText.{CertRefusal}
 use Rattle.cert_text.specs.CertText as cert
 use Rattle.cert_text.specs.Parts.{CertParts}
+use Rattle.cert_text.specs.Reading.{cert_of_text}
 use Rattle.pack_base.specs.declared.reading.ReadWhole.{ReadWhole}
 use Rattle.pack_base.specs.declared.reading.ReadWhole.TheVariants as whole
 use Rattle.canpack_top.specs.declared.ending.Stop.{Stop}
