@@ -16,7 +16,7 @@ const TWO_FRAMES: &[u8] =
     b"id,sender,size,ticks,header,pdu,at,signal,start,bits\n256,ECU1,1,7000,none,,0,S1,0,8\n257,ECU1,1,7000,none,,0,S2,0,8\n";
 
 /// MATRIX and CERT of the two signals, with the status and what is said.
-const CERTIFICATES: [(&[u8], &[u8], u8, &[u8]); 17] = [
+const CERTIFICATES: [(&[u8], &[u8], u8, &[u8]); 21] = [
     // The frame's ticks, which the frame needs, and one tick less.
     (
         MATRIX,
@@ -66,7 +66,32 @@ const CERTIFICATES: [(&[u8], &[u8], u8, &[u8]); 17] = [
         MATRIX,
         b"canpack certificate 1\nkind best\nframe 7400 0\nend\n",
         4,
-        b"refused CERT line 2\n",
+        b"refused CERT line 4\n",
+    ),
+    (
+        MATRIX,
+        b"canpack certificate 1\nkind best\nframe 7400 0\nmain\ni 1\ni 2\nb\nb\nen",
+        4,
+        b"refused CERT cut\n",
+    ),
+    // Trees are not judged yet: the matrix is, then the timing, and then the tree is rejected.
+    (
+        MATRIX,
+        b"canpack certificate 1\nkind none\nmain\no\nend\n",
+        5,
+        b"rejected matrix\n",
+    ),
+    (
+        MATRIX,
+        b"canpack certificate 1\nkind best\nframe 7399 0\nmain\ni 1\ni 2\nb\nb\nend\n",
+        5,
+        b"rejected timing\n",
+    ),
+    (
+        MATRIX,
+        b"canpack certificate 1\nkind best\nframe 7400 0\nmain\ni 1\ni 2\nb\nb\nend\n",
+        5,
+        b"rejected tree\n",
     ),
     // The greatest number, no line for the frame, and two.
     (

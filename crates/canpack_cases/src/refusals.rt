@@ -82,7 +82,7 @@ const REFUSED: [(usize, &[u8], &[u8]); 21] = [
     (
         3,
         b"canpack certificate 1\nkind best\nend\n",
-        b"refused CERT line 2\n",
+        b"refused CERT line 3\n",
     ),
     (
         3,
