@@ -15,7 +15,7 @@ use Rattle.bandwidth_bound.specs.declared.verdict.Part.TheVariants as part
 use Rattle.canpack_top.specs.declared.verdict.Found.{Found}
 use Rattle.canpack_top.specs.declared.verdict.Found.TheVariants as found
 use Rattle.canpack_top.specs.Answer.{Answered, IsAnswer, IsAnswered, IsExcused, IsRefused}
-use Rattle.canpack_top.specs.Check.{Accepts, HasAll, HasOnePlace, HasPassing, Rejects, check_answer, check_meaning, texts_at}
+use Rattle.canpack_top.specs.Check.{Accepts, HasAll, HasNoneLate, HasOnePlace, HasPassing, Rejects, check_answer, check_meaning, texts_at}
 use Rattle.canpack_top.specs.Command.{command_of, names_in}
 use Rattle.canpack_top.specs.Commands.{IsCheck, IsPlan, OfCommand, meaning_of}
 use Rattle.canpack_top.specs.Ending.{number_of}
@@ -135,7 +135,8 @@ own_of : (words : List (String Global)) (before now : Files) (given : Command) (
 own_of words before now given due answer is has_status other ends = record {
   answer = answer;
   has_status = has_status;
-  finishes = own _ before now answer (λ h. other (sym has_status ∙ h)) (of_words words given (λ m. Ends m before now answer) is ends) }
+  finishes = own _ before now answer (λ h. other (sym has_status ∙ h)) (of_words words given (λ m. Ends m before now answer) is ends);
+}
 
 module _ {words : List (String Global)} {before now : Files} {said_before said_now : Option (List ℕ)} {number : ℕ}
     (called : Called words before now said_before said_now number) where
@@ -174,6 +175,9 @@ module _ {words : List (String Global)} {before now : Files} {said_before said_n
   pub check_passes : number ≡ 0 → IsSome before → IsCheck words → HasPassing (names_in words) before
   check_passes zero told check = ok_and (texts_at (names_in words) before) Holds _ (λ judged all. all.passes) (check_all zero told check)
 
+  pub check_never_late : number ≡ 0 → IsSome before → IsCheck words → HasNoneLate (names_in words) before
+  check_never_late zero told check = ok_and (texts_at (names_in words) before) Holds _ (λ judged all. all.never_late) (check_all zero told check)
+
   -- `check` rejects at status 5
   pub check_rejected : number ≡ 5 → IsSome before → IsCheck words → Rejects (names_in words) before
   check_rejected five told check =
@@ -198,10 +202,12 @@ module _ {words : List (String Global)} {before now : Files} {said_before said_n
   -- where the words are the line of a command, its status is that of an answer, or excused
   by_status : {G : Type 0} → (IsNone (command_of words) → ⊥) → (number ≡ 0 → G) → (number ≡ 4 → G) → (number ≡ 5 → G) → (IsExcused number → G) → G
   by_status {G = G} some at_done at_refused at_rejected excused = elim called.statuses [
-      inl one ↦ absurd (some (called.usage one))
+    | inl one ↦ absurd (some (called.usage one))
     | inr rest ↦ elim rest [
-        inl answered ↦ elim answered [ inl zero ↦ at_done zero | inr more ↦ elim more [ inl four ↦ at_refused four | inr five ↦ at_rejected five ] ]
-      | inr is ↦ excused is ] ]
+      | inl answered ↦ elim answered [ inl zero ↦ at_done zero | inr more ↦ elim more [ inl four ↦ at_refused four | inr five ↦ at_rejected five ] ]
+      | inr is ↦ excused is
+    ]
+  ]
 
   -- a text that the command refuses doesn't stand
   refused_at : (given : Command) → command_of words ≡ Some given → IsSome before → number ≡ 4 → IsRefused before (meaning_of given words)

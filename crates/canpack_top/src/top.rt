@@ -12,7 +12,7 @@ ghost use Rattle.canpack_top.specs.Answer.{
   SaysPart,
   WritesPart,
 };
-ghost use Rattle.canpack_top.specs.Check.{Accepts, HasOnePlace, HasPassing, Rejects, texts_at};
+ghost use Rattle.canpack_top.specs.Check.{Accepts, HasNoneLate, HasOnePlace, HasPassing, Rejects, texts_at};
 ghost use Rattle.canpack_top.specs.Command.{command_of, names_in};
 ghost use Rattle.canpack_top.specs.Commands.{IsCheck, IsPlan, OfCommand};
 ghost use Rattle.canpack_top.specs.Files.{problem_at};
@@ -44,24 +44,19 @@ fn say<O: Sink>(out: &mut O, line: &[u8], status: u8) -> u8
 }
 
 /// Does what the words ask for, and answers the status; what the status says is the same for each command.
-fn status_of<F: Folder, O: Sink>(
-    alloc: Global,
-    words: &[String],
-    folder: &mut F,
-    out: &mut O,
-) -> u8
+fn status_of<F: Folder, O: Sink>(alloc: Global, words: &[String], folder: &mut F, out: &mut O) -> u8
     ensures usage { result ≡ 1 → IsNone (command_of words.now)
         × (O.said out.new ≡ and_said (O.said out.old) usage_line) }
     ensures only_usage { IsNone (command_of words.now) → (result ≡ 1) ⊎ (result ≡ 7) }
     ensures answered { IsAnswered result
         → Answered result words.now
-            (F.files folder.old) (F.files folder.new) (O.said out.old) (O.said out.new) }
+        (F.files folder.old) (F.files folder.new) (O.said out.old) (O.said out.new) }
     ensures read_fault { result ≡ 2
         → OfCommand words.now (λ meaning.
-            SomeRose meaning.reads (F.read_faults folder.old) (F.read_faults folder.new)) }
+        SomeRose meaning.reads (F.read_faults folder.old) (F.read_faults folder.new)) }
     ensures write_fault { result ≡ 3
         → OfCommand words.now (WritesPart (F.files folder.old) (F.files folder.new)
-            (F.write_faults folder.old) (F.write_faults folder.new)) }
+        (F.write_faults folder.old) (F.write_faults folder.new)) }
     ensures say_fault { result ≡ 7 → Rose (O.faults out.old) (O.faults out.new) }
     ensures part_said { result ≡ 7
         → SaysPart words.now (F.files folder.old) (F.files folder.new) (O.said out.old) (O.said out.new) }
@@ -99,13 +94,13 @@ pub fn canpack<R: Threads, F: Folder, O: Sink, G: Gate + Sync>(
         × (O.said out.new ≡ and_said (O.said out.old) usage_line) }
     ensures answered { IsAnswered result
         → Answered result words.now
-            (F.files folder.old) (F.files folder.new) (O.said out.old) (O.said out.new) }
+        (F.files folder.old) (F.files folder.new) (O.said out.old) (O.said out.new) }
     ensures read_fault { result ≡ 2
         → OfCommand words.now (λ meaning.
-            SomeRose meaning.reads (F.read_faults folder.old) (F.read_faults folder.new)) }
+        SomeRose meaning.reads (F.read_faults folder.old) (F.read_faults folder.new)) }
     ensures write_fault { result ≡ 3
         → OfCommand words.now (WritesPart (F.files folder.old) (F.files folder.new)
-            (F.write_faults folder.old) (F.write_faults folder.new)) }
+        (F.write_faults folder.old) (F.write_faults folder.new)) }
     ensures say_fault { result ≡ 7 → Rose (O.faults out.old) (O.faults out.new) }
     ensures part_said { result ≡ 7
         → SaysPart words.now (F.files folder.old) (F.files folder.new) (O.said out.old) (O.said out.new) }
@@ -129,6 +124,8 @@ pub fn canpack<R: Threads, F: Folder, O: Sink, G: Gate + Sync>(
         → HasOnePlace (names_in words.now) (F.files folder.old) }
     ensures passes { result ≡ 0 → IsSome (F.files folder.old) → IsCheck words.now
         → HasPassing (names_in words.now) (F.files folder.old) }
+    ensures never_late { result ≡ 0 → IsSome (F.files folder.old) → IsCheck words.now
+        → HasNoneLate (names_in words.now) (F.files folder.old) }
     ensures rejected { result ≡ 5 → IsSome (F.files folder.old) → IsCheck words.now
         → Rejects (names_in words.now) (F.files folder.old) }
     ensures accepts { IsSome (F.files folder.old) → IsCheck words.now
