@@ -80,8 +80,7 @@ module _ {F : Type 0} {files : F → Files} {read_faults write_faults given_byte
     part = λ h told. absurd (none h);
     same = λ h. inr only.same;
     idle = λ h. only.same;
-    later = only.later;
-  }
+    later = only.later }
 
   -- a command whose reading stopped runs
   pub stopped : (meaning : Meaning) (why : Stop) (result : Result GivenAnswer Halt) → Stops why result
@@ -113,13 +112,12 @@ module _ {F : Type 0} {files : F → Files} {read_faults write_faults given_byte
     not_refused = λ h. not_refused judgement.hyper judgement.found (sym (ap (λ a. a.status) is) ∙ h);
     stand = λ told. no_refusal (texts_at names (files old)) _ (finds told);
     answers = λ told. ok_and (texts_at names (files old)) _ (IsAnswerOf (seen answer))
-        (λ judged both. (judgement.found, both.0, is ∙ ap (λ h. check_answer h judgement.found) both.1)) (finds told);
+    (λ judged both. (judgement.found, both.0, is ∙ ap (λ h. check_answer h judgement.found) both.1)) (finds told);
     leaves = λ told. only.same;
     shows = λ told done. holds told (is_shown judgement.hyper judgement.found (sym (ap (λ a. a.status) is) ∙ done));
-    kept = λ h. only.same;
-  })) (λ h. cc) (λ h. cc) only
+    kept = λ h. only.same })) (λ h. cc) (λ h. cc) only
   judged names judgement (Err why) is no_err finds holds only = unwritten (check_meaning names) (Err why) tt
-      (λ h. cc) (λ h. cc) only
+    (λ h. cc) (λ h. cc) only
 
   -- `plan` ran where there is a problem, of which it only reads up to `mid`
   pub planned : {mid : F} (names : Names) (problem : Parts) (result : Result GivenAnswer Halt)
@@ -136,33 +134,28 @@ module _ {F : Type 0} {files : F → Files} {read_faults write_faults given_byte
       → Runs (plan_meaning names) files read_faults write_faults given_bytes old new result
   planned {mid} names problem (Ok answer) stands only is written accepted part rose none same later = record {
     ends = inl (record {
-      has = is;
-      not_refused = λ h. cc;
-      stand = λ told. ap (λ (r : Result Parts Refusal). option_map refused_line (result_err r)) (stands told);
-      answers = λ told. is;
-      leaves = λ told. is_planned names (files old) (files mid) (files new) problem (planned_text problem) (stands told) only.same refl written;
-      shows = λ told. accepted (subst IsSome (sym only.same) told) (ap (problem_at names) only.same ∙ stands told);
-      kept = λ h. cc;
-    });
+    has = is;
+    not_refused = λ h. cc;
+    stand = λ told. ap (λ (r : Result Parts Refusal). option_map refused_line (result_err r)) (stands told);
+    answers = λ told. is;
+    leaves = λ told. is_planned names (files old) (files mid) (files new) problem (planned_text problem) (stands told) only.same refl written;
+    shows = λ told. accepted (subst IsSome (sym only.same) told) (ap (problem_at names) only.same ∙ stands told);
+    kept = λ h. cc });
     read_fault = λ h. cc;
     write_fault = λ h. cc;
     part = λ h. cc;
     same = λ h. cc;
     idle = λ h. cc;
-    later = later_trans only.later later;
-  }
+    later = later_trans only.later later }
   planned {mid} names problem (Err why) stands only is written accepted part rose none same later = record {
     ends = tt;
     read_fault = λ h. absurd (none h);
     write_fault = λ h. rose_since (written_names names) (write_faults old) (write_faults mid) (write_faults new) only.later.write (rose h);
-    part = λ h told. (
-      ap (λ (r : Result Parts Refusal). option_map refused_line (result_err r)) (stands told),
-      is_part_planned names (files old) (files mid) (files new) problem (planned_text problem) (stands told) only.same refl (part h),
-    );
+    part = λ h told. (ap (λ (r : Result Parts Refusal). option_map refused_line (result_err r)) (stands told),
+    is_part_planned names (files old) (files mid) (files new) problem (planned_text problem) (stands told) only.same refl (part h));
     same = λ h. elim (same h) [ inl fault ↦ inl fault | inr is ↦ inr (is ∙ only.same) ];
     idle = λ h. cc;
-    later = later_trans only.later later;
-  }
+    later = later_trans only.later later }
 
   -- a command that ran with equal names
   pub renamed : (meaning : Names → Meaning) (names same : Names) (result : Result GivenAnswer Halt) → names ≡ same

@@ -33,7 +33,7 @@ SaysPart words before now said_before said_now =
 -- the write faults of a file that the command writes rose, and of told files no text is refused, and they are as it
 -- leaves them at a write fault
 abbrev pub WritesPart : Files → Files → (List ℕ → ℕ) → (List ℕ → ℕ) → Meaning → Type 0
-WritesPart before now faults_before faults_now meaning =
+WritesPart before now faults_before faults_now meaning = 
     SomeRose meaning.writes faults_before faults_now
     × (IsSome before → (meaning.first_refusal before ≡ None) × meaning.LeavesPart before now)
 

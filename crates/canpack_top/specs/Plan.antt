@@ -43,5 +43,4 @@ plan_meaning names = record {
   Answers = λ files answer. answer ≡ plan_answer;
   Leaves = λ answer before now. IsPlanned names before now;
   LeavesPart = λ before now. IsPartPlanned names before now;
-  Shows = λ answer before now. Accepts names now;
-}
+  Shows = λ answer before now. Accepts names now }

@@ -36,7 +36,7 @@ fn judgement_at<F: Folder>(
         → IfOk result (λ given. IsShown given.found → HasAll (names_of names.entry) (F.files folder.old)) }
     ensures read_fault { IsErrOf result Stop.ReadFault
         → SomeRose (check_names (names_of names.entry))
-        (F.read_faults folder.old) (F.read_faults folder.new) }
+            (F.read_faults folder.old) (F.read_faults folder.new) }
     ensures only { ReadsOnly F.files F.read_faults F.write_faults F.given folder.old folder.new }
 {
     let problem = read_problem(alloc, folder, names)?;

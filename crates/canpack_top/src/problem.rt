@@ -55,7 +55,7 @@ pub fn read_problem<F: Folder>(
         → Gives (λ problem. problem) result (problem_at (names_of names.entry) (F.files folder.old)) }
     ensures read_fault { IsErrOf result Stop.ReadFault
         → SomeRose (problem_names (names_of names.entry))
-        (F.read_faults folder.old) (F.read_faults folder.new) }
+            (F.read_faults folder.old) (F.read_faults folder.new) }
     ensures only { ReadsOnly F.files F.read_faults F.write_faults F.given folder.old folder.new }
 {
     let network = network_at(alloc, folder, names.network)?;

@@ -66,10 +66,9 @@ fn verdict_text(alloc: Global, shown: Verdict, hyper: u64) -> Result<String, All
         Verdict::Placed => format!(in alloc; "placed\n"),
         Verdict::Timed { load } => format!(in alloc; "timed {load}/{hyper}\n"),
         Verdict::Between { best: None, lower } => format!(in alloc; "open - {lower}/{eighths}\n"),
-        Verdict::Between {
-            best: Some(best),
-            lower,
-        } => { format!(in alloc; "open {best}/{hyper} {lower}/{eighths}\n") }
+        Verdict::Between { best: Some(best), lower } => {
+            format!(in alloc; "open {best}/{hyper} {lower}/{eighths}\n")
+        }
         Verdict::Best { load } => format!(in alloc; "best {load}/{hyper}\n"),
         Verdict::NoSolution => format!(in alloc; "none\n"),
     }
