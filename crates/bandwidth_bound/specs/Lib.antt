@@ -1,3 +1,4 @@
+pub mod Bus
 pub mod Follows
 pub mod Rule
 pub mod Timing

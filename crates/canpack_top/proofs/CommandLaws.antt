@@ -13,7 +13,7 @@ use Rattle.bandwidth_bound.specs.declared.verdict.Part.TheVariants as part
 use Rattle.canpack_top.specs.declared.verdict.Found.{Found}
 use Rattle.canpack_top.specs.declared.verdict.Found.TheVariants as found
 use Rattle.canpack_top.specs.Answer.{Answered, IsAnswer, IsAnswered, IsExcused, IsRefused}
-use Rattle.canpack_top.specs.Check.{Accepts, HasAll, HasOnePlace, HasPassing, Rejects, check_answer, check_meaning, texts_at}
+use Rattle.canpack_top.specs.Check.{Accepts, HasAll, HasNoneLate, HasOnePlace, HasPassing, Rejects, check_answer, check_meaning, texts_at}
 use Rattle.canpack_top.specs.Command.{command_of, names_in}
 use Rattle.canpack_top.specs.Commands.{IsCheck, IsPlan, OfCommand, meaning_of}
 use Rattle.canpack_top.specs.Ending.{number_of}
@@ -178,6 +178,9 @@ module _ {words : List (String Global)} {before now : Files} {said_before said_n
   -- the frames pass then, where the certificate is of kind `timed`
   pub check_passes : number ≡ 0 → IsSome before → IsCheck words → HasPassing (names_in words) before
   check_passes zero told check = ok_and (texts_at (names_in words) before) Holds _ (λ judged all. all.passes) (check_all zero told check)
+
+  pub check_never_late : number ≡ 0 → IsSome before → IsCheck words → HasNoneLate (names_in words) before
+  check_never_late zero told check = ok_and (texts_at (names_in words) before) Holds _ (λ judged all. all.never_late) (check_all zero told check)
 
   -- `check` rejects at status 5
   pub check_rejected : number ≡ 5 → IsSome before → IsCheck words → Rejects (names_in words) before

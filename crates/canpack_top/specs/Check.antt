@@ -17,7 +17,7 @@ use Rattle.canpack_top.specs.Files.{cert_at, matrix_at, problem_at}
 use Rattle.canpack_top.specs.Line.{refused_line}
 use Rattle.canpack_top.specs.Meaning.{Answer, Meaning}
 use Rattle.canpack_top.specs.Reads.{check_names}
-use Rattle.canpack_top.specs.Verdict.{Finds, FramesPass, IsAccepted, IsRejected, found_line}
+use Rattle.canpack_top.specs.Verdict.{Finds, FramesNeverLate, FramesPass, IsAccepted, IsRejected, found_line}
 use Rattle.bandwidth_bound.specs.Rule.{Judged}
 use Rattle.bandwidth_bound.specs.Follows.{Holds}
 
@@ -44,6 +44,11 @@ HasOnePlace names files = IsOkAnd (texts_at names files) (λ judged. OnePlace ju
 -- the texts stand, and where the certificate is of kind `timed`, each frame passes the written test
 abbrev pub HasPassing : Names → Files → Type 0
 HasPassing names files = IsOkAnd (texts_at names files) FramesPass
+
+-- the texts stand, and where the certificate is of kind `timed`, no release is late in any run that stands over the
+-- matrix's frames
+abbrev pub HasNoneLate : Names → Files → Type 0
+HasNoneLate names files = IsOkAnd (texts_at names files) FramesNeverLate
 
 -- the texts stand, and all that follows from the acceptance rule holds
 abbrev pub HasAll : Names → Files → Type 0

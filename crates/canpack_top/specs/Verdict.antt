@@ -5,6 +5,7 @@ use Rattle.bandwidth_bound.specs.declared.verdict.Part.{Part}
 use Rattle.bandwidth_bound.specs.declared.verdict.Part.TheVariants as part
 use Rattle.bandwidth_bound.specs.declared.verdict.Verdict.{Verdict}
 use Rattle.bandwidth_bound.specs.declared.verdict.Verdict.TheVariants as verdict
+use Rattle.bandwidth_bound.specs.Bus.{NeverLate}
 use Rattle.bandwidth_bound.specs.Rule.{FailsFirst, Judged}
 use Rattle.bandwidth_bound.specs.Rule as rule
 use Rattle.bandwidth_bound.specs.Timing.{AllPass}
@@ -38,6 +39,10 @@ IsRejected judged = (failed : Part) × Finds (found.Rejected failed) judged
 -- where the certificate is of kind `timed`, each frame passes the written test
 abbrev pub FramesPass : Judged → Type 0
 FramesPass judged = judged.cert.kind ≡ KindTimed → AllPass judged.problem judged.matrix
+
+-- where the certificate is of kind `timed`, no release is late in any run that stands over the matrix's frames
+abbrev pub FramesNeverLate : Judged → Type 0
+FramesNeverLate judged = judged.cert.kind ≡ KindTimed → NeverLate judged.problem judged.matrix
 
 -- a load or a bound, over what it is counted in, and LF
 abbrev pub fraction : ℕ → ℕ → List ℕ

@@ -2,7 +2,7 @@
 ghost use Rattle.std.specs.Prelude.{◌≡◌, ◌≢◌, ◌⊎◌, IsNone, IsOk};
 ghost use Rattle.pack_base.specs.SteadyFolder.{files_of};
 ghost use Rattle.canpack_top.specs.Answer.{IsRefused};
-ghost use Rattle.canpack_top.specs.Check.{Accepts, HasOnePlace, HasPassing, texts_at};
+ghost use Rattle.canpack_top.specs.Check.{Accepts, HasNoneLate, HasOnePlace, HasPassing, texts_at};
 ghost use Rattle.canpack_top.specs.Command.{command_of, names_in};
 ghost use Rattle.canpack_top.specs.Commands.{IsCheck, IsPlan, OfCommand};
 ghost use Rattle.canpack_top.specs.Files.{problem_at};
@@ -34,6 +34,8 @@ pub fn canpack_steady<R: Threads, G: Gate + Sync>(
     ensures one_place { result ≡ 0 → IsCheck words.now
         → HasOnePlace (names_in words.now) (files_of folder.old) }
     ensures passes { result ≡ 0 → IsCheck words.now → HasPassing (names_in words.now) (files_of folder.old) }
+    ensures never_late { result ≡ 0 → IsCheck words.now
+        → HasNoneLate (names_in words.now) (files_of folder.old) }
     ensures files { IsCheck words.now → files_of folder.new ≡ files_of folder.old }
 
     // `plan` says that it is done only where both files are written.

@@ -12,7 +12,7 @@ ghost use Rattle.canpack_top.specs.Answer.{
   SaysPart,
   WritesPart,
 };
-ghost use Rattle.canpack_top.specs.Check.{Accepts, HasOnePlace, HasPassing, Rejects, texts_at};
+ghost use Rattle.canpack_top.specs.Check.{Accepts, HasNoneLate, HasOnePlace, HasPassing, Rejects, texts_at};
 ghost use Rattle.canpack_top.specs.Command.{command_of, names_in};
 ghost use Rattle.canpack_top.specs.Commands.{IsCheck, IsPlan, OfCommand};
 ghost use Rattle.canpack_top.specs.Files.{problem_at};
@@ -124,6 +124,8 @@ pub fn canpack<R: Threads, F: Folder, O: Sink, G: Gate + Sync>(
         → HasOnePlace (names_in words.now) (F.files folder.old) }
     ensures passes { result ≡ 0 → IsSome (F.files folder.old) → IsCheck words.now
         → HasPassing (names_in words.now) (F.files folder.old) }
+    ensures never_late { result ≡ 0 → IsSome (F.files folder.old) → IsCheck words.now
+        → HasNoneLate (names_in words.now) (F.files folder.old) }
     ensures rejected { result ≡ 5 → IsSome (F.files folder.old) → IsCheck words.now
         → Rejects (names_in words.now) (F.files folder.old) }
     ensures accepts { IsSome (F.files folder.old) → IsCheck words.now

@@ -1,3 +1,4 @@
+pub mod BusLaws
 pub mod KindLaws
 pub mod Lines
 pub mod Stages

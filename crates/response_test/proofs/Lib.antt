@@ -9,3 +9,4 @@ pub mod Chains
 pub mod Denials
 pub mod Climbs
 pub mod OneEvidence
+pub mod Renumbered

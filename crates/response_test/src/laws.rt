@@ -1,4 +1,4 @@
-ghost use Rattle.std.specs.Prelude.{◌≡◌, ℕ, ◌≤◌, ◌↔◌, List, nat_eq, All};
+ghost use Rattle.std.specs.Prelude.{◌≡◌, ℕ, ◌<◌, ◌≤◌, ◌↔◌, List, nat_eq, All, length, map, slice_index};
 ghost use Rattle.std.specs.List.{IsDistinct};
 ghost use Rattle.busy_period.specs.declared.timed.Timed.{Timed};
 ghost use Rattle.busy_period.specs.Timed.{IsInRange, frame_at};
@@ -55,4 +55,13 @@ pub fn growth_keeps_failing()
 pub fn no_order_passes_failing_set()
     ensures { (frames : List Timed) (bit : ℕ) (members order : List ℕ) → 1 ≤ bit → All IsInRange frames
         → FailSet frames bit members → ¬ (OrderPasses frames bit order) }
+{}
+
+/// A law: what is shown of frames in an order stays shown where the frames are numbered in that order.
+pub fn shown_in_order_is_shown_by_number()
+    ensures { (frames : List Timed) (order numbers : List ℕ) → length numbers ≡ length order
+        → ((number : ℕ) → number < length numbers → slice_index numbers number ≡ number)
+        → (place bit busy : ℕ) (starts : List ℕ) → place < length order
+        → IsShown frames order place bit busy starts
+        → IsShown (map (frame_at frames) order) numbers place bit busy starts }
 {}

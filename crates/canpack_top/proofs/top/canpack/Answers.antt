@@ -3,6 +3,7 @@ use Rattle.canpack_top.proofs.CommandLaws.{
   check_accepted,
   check_accepts,
   check_idle,
+  check_never_late,
   check_one_place,
   check_passes,
   check_rejected,
@@ -49,6 +50,13 @@ returns-clause-passes g c =
     (g.O.Sink.said c.args.out.now) (g.O.Sink.said c.status_of.new.out) c.status_of.result =
     record { statuses = c.status_of.ensures.statuses; usage = λ one. (c.status_of.ensures.usage one).0; answered = c.status_of.ensures.answered } in
     check_passes called
+
+pub returns-clause-never_late : goal.returns-clause-never_late
+returns-clause-never_late g c =
+    let called : Called c.args.words.now (g.F.Folder.files c.args.folder.now) (g.F.Folder.files c.status_of.new.folder)
+    (g.O.Sink.said c.args.out.now) (g.O.Sink.said c.status_of.new.out) c.status_of.result =
+    record { statuses = c.status_of.ensures.statuses; usage = λ one. (c.status_of.ensures.usage one).0; answered = c.status_of.ensures.answered } in
+    check_never_late called
 
 pub returns-clause-rejected : goal.returns-clause-rejected
 returns-clause-rejected g c =

@@ -1,4 +1,5 @@
-use Rattle.std.proofs.Common.{◌≡◌, ◌<◌, ◌++◌, ℕ, List, All, length, take, ap, sym, ◌∙◌, subst, arith, nat_eq, length-take-le, true, false, Ok, Err}
+use Rattle.std.proofs.Common.{◌≡◌, ◌<◌, ◌++◌, ℕ, List, All, length, take, ap, sym, ◌∙◌, subst, arith, nat_eq, length-take-le, true, false, Result, Ok, Err}
+use Rattle.std.specs.Prelude.{OnOk}
 use Rattle.std.specs.List.{IsDistinct}
 use Rattle.std.proofs.lemmas.List.{take-append-le, take_all}
 use Rattle.pack_model.specs.Problem.{Parts}
@@ -6,9 +7,13 @@ use Rattle.class_frame.specs.Grouping.{IsGrouping, IsOrder}
 use Rattle.class_frame.proofs.GroupingLaws.{classes_of-le-length, distinct-order, length-order}
 use Rattle.matrix_rows.specs.declared.matrix.MatrixRow.{MatrixRow}
 use Rattle.matrix_text.specs.Frames.{grouping_of, order_of}
-use Rattle.cert_check.specs.Accept.{IsFound}
+use Rattle.bandwidth_bound.specs.declared.verdict.Verdict.{Verdict}
+use Rattle.bandwidth_bound.specs.Follows.{Holds}
+use Rattle.cert_check.specs.declared.fault.CheckFault.{CheckFault}
+use Rattle.cert_check.specs.Accept.{IsFound, judged_of}
 use Rattle.cert_check.specs.Kinds.{answer_with_load, is_kind_placed, is_to_be_placed}
-use Rattle.cert_check.specs.Timing.{AreOrdered, IsTimed}
+use Rattle.cert_check.specs.Timing.{AreOrdered, ClassesPass, ClassesShown, IsTimed}
+use Rattle.cert_check.proofs.BusLaws.{shown_never_late}
 use Rattle.cert_check.proofs.KindLaws.{found_with_load, fault_of_lines}
 use Rattle.cert_check.proofs.check.check_cert.Goals as goal
 
@@ -60,3 +65,28 @@ returns-clause-found c =
     (subst (λ l. IsTimed c.args.problem.now l (order_of c.args.problem.now c.args.matrix.now) c.args.cert.now.frames (Err c.in-Err.fault)) labels
     (subst (λ o. IsTimed c.args.problem.now c.deref.result.now o c.args.cert.now.frames (Err c.in-Err.fault)) order
     (subst (λ ls. IsTimed c.args.problem.now c.deref.result.now (take c.in-Some.frames c.deref-2.result.now) ls (Err c.in-Err.fault)) c.frames-lines.ensures c.in-Err.ensures.found)))
+
+-- what holds, holds of what is answered
+on_ok : (answer : Result Verdict CheckFault) (P : Type 0) → P → OnOk answer P
+on_ok (Ok shown) P holds = holds
+on_ok (Err why) P holds = tt
+
+pub returns-in-Ok-clause-holds : goal.returns-in-Ok-clause-holds
+returns-in-Ok-clause-holds c =
+    let problem : Parts = c.args.problem.now in
+    let rows : List MatrixRow = c.args.matrix.now in
+    let labels : c.deref.result.now ≡ grouping_of problem rows = c.deref.ensures.value ∙ whole _ _ _ (omega (arith, c.labels_of.auto.labels, c.deref_mut.ensures.len)) ∙ c.in-Some.ensures.labels in
+    let order : take c.in-Some.frames c.deref-2.result.now ≡ order_of problem rows = ap (take c.in-Some.frames) (c.deref-2.ensures.value ∙ whole _ _ _ (omega (arith, c.labels_of.auto.order, c.deref_mut-2.ensures.len))) ∙ c.in-Some.ensures.order in
+    let grouping : IsGrouping problem.items (grouping_of problem rows) = subst (IsGrouping problem.items) c.in-Some.ensures.labels c.in-Some.ensures.legal.grouping in
+    let named : IsOrder (grouping_of problem rows) (order_of problem rows) =
+    subst (λ l. IsOrder l (order_of problem rows)) c.in-Some.ensures.labels (subst (IsOrder c.labels_of.new.labels) c.in-Some.ensures.order c.in-Some.ensures.named) in
+    let passes : ClassesPass problem (grouping_of problem rows) (order_of problem rows) =
+    subst (λ l. ClassesPass problem l (order_of problem rows)) labels (subst (ClassesPass problem c.deref.result.now) order c.in-Ok.ensures.passes) in
+    let shown : ClassesShown problem (grouping_of problem rows) (order_of problem rows) c.frames-lines.result.now =
+    subst (λ l. ClassesShown problem l (order_of problem rows) c.frames-lines.result.now) labels
+    (subst (λ o. ClassesShown problem c.deref.result.now o c.frames-lines.result.now) order c.in-Ok.ensures.found.0) in
+    on_ok c.answer_with_load.result (Holds (judged_of problem rows c.args.cert.now)) (record {
+      one_place = c.in-Some.ensures.one_place;
+      passes = λ _. passes;
+      never_late = λ _. shown_never_late problem rows c.items-items.ensures.problem c.items-items.ensures.sorted grouping named c.frames-lines.result.now shown;
+    })
