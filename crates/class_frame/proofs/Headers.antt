@@ -1,9 +1,11 @@
 -- The header and the bytes of items, by their sums.
-use Rattle.std.proofs.Common.{◌≡◌, ℕ, ◌+◌, ◌*◌, ◌^◌, ◌<◌, ◌≤◌, true, false, List, [], ◌∷◌, length, map, sum, sum_by, nat_lt, suc, Option, None, Some, refl, sym, ap, ◌∙◌, ◌&&◌, arith, if◌then◌else◌}
+use Rattle.std.proofs.Common.{◌≡◌, ℕ, ◌+◌, ◌*◌, ◌^◌, ◌<◌, ◌≤◌, ◌⊎◌, inl, inr, true, false, List, [], ◌∷◌, length, map, sum, sum_by, nat_lt, suc, Option, None, Some, refl, sym, ap, ◌∙◌, ◌&&◌, arith, if◌then◌else◌}
 use Rattle.std.specs.List.{list_all, list_any}
 use Rattle.std.specs.Int.{div_ceil}
-use Rattle.std.proofs.lemmas.Bool.{lt-ltb, le-ltb}
+use Rattle.std.proofs.lemmas.Bool.{cases_lt, lt-ltb, le-ltb}
+use Rattle.std.proofs.lemmas.Grind.{div_ceil_times}
 use Rattle.std.proofs.lemmas.List.Sums.{sum-map}
+use Rattle.std.proofs.Math.Nat.{mul-le-mul}
 use Rattle.pack_model.specs.declared.item.Item.{Item}
 use Rattle.pack_model.specs.Problem.{Parts}
 use Rattle.container_pdu.specs.declared.header.Header.{Header}
@@ -11,7 +13,7 @@ use Rattle.container_pdu.specs.declared.header.Header.TheVariants.{NoHeader, Sho
 use Rattle.container_pdu.specs.Bytes.{header_bytes}
 use Rattle.class_frame.specs.Frame.{ids_of, is_pdu, header_of_items, bytes_of_item, bytes_of_items}
 use Rattle.class_frame.specs.declared.sums.Sums.{Sums}
-use Rattle.class_frame.specs.Sums.{AreSums, is_short}
+use Rattle.class_frame.specs.Sums.{AreSums, IsSmall, is_short}
 
 -- each id is short where each item has a short one or none
 shorts : (items : List Item) → list_all (λ item. is_short item.pdu) items ≡ list_all (λ id. nat_lt id (2 ^ 24)) (ids_of items)
@@ -71,3 +73,13 @@ pub pdus_of_sums : (problem : Parts) (items : List Item) (sums : Sums) (header :
 pdus_of_sums problem items sums header is some same =
     ap (λ (s : Sums). s.pdus * header + s.bytes) is ∙ ap (λ n. length (ids_of items) * n + sum_by bytes_of_item items) same
     ∙ sym (bytes_pdus items (omega (arith, some, ap (λ (s : Sums). s.pdus) is)))
+
+-- small sums are of at most 10,000 bytes
+pub bytes_of_small : (problem : Parts) (items : List Item) (sums : Sums) → AreSums problem items sums → IsSmall sums → bytes_of_items items ≤ 10000
+bytes_of_small problem items sums is small = by (cases_lt 0 sums.pdus)
+  where
+    by : (0 < sums.pdus) ⊎ (sums.pdus ≤ 0) → bytes_of_items items ≤ 10000
+    by (inl some) =
+        let most : sums.pdus * header_bytes (header_of_items items) ≤ 128 * 8 = mul-le-mul small.pdus (header_bytes_le (header_of_items items)) in
+        omega (arith, pdus_of_sums problem items sums (header_bytes (header_of_items items)) is some refl, small.bytes)
+    by (inr none) = omega (arith, free_of_sums problem items sums is (omega (arith, none)), small.bits, div_ceil_times sums.bits 8 (omega arith))

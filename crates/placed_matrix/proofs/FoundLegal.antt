@@ -3,8 +3,8 @@ use Rattle.std.proofs.Common.{◌≡◌, ℕ, ◌<◌, ◌≤◌, ◌⊎◌, con
 use Rattle.std.specs.Str.{bytes_eq}
 use Rattle.std.specs.List.{position_or_len}
 use Rattle.std.proofs.lemmas.Bool.{cases_lt, ne_eqb}
-use Rattle.std.proofs.lemmas.List.{get_or_default, get_or-map, length-map}
-use Rattle.std.proofs.lemmas.List.Elements.{All-map, filter_agree, All-filter, filter_passes}
+use Rattle.std.proofs.lemmas.List.{get_or_default}
+use Rattle.std.proofs.lemmas.List.Elements.{All-map, All-filter, filter_passes}
 use Rattle.fd_length.specs.Size.{fd_size_of}
 use Rattle.fd_length.proofs.Sizes.{fd_size_of-none}
 use Rattle.pack_model.specs.declared.item.Item.{Item}
@@ -12,22 +12,16 @@ use Rattle.pack_model.specs.Problem.{Parts, IsProblem, IsSorted, senders_of}
 use Rattle.class_frame.specs.Frame.{is_pdu, bytes_of_items}
 use Rattle.class_frame.specs.Grouping.{class_of}
 use Rattle.class_frame.specs.Legal.{ClassStands, IsLegal}
-use Rattle.class_frame.proofs.GroupingLaws.{class_of-cons, label-lt-classes_of}
 use Rattle.matrix_rows.specs.declared.matrix.MatrixRow.{MatrixRow}
 use Rattle.placed_matrix.specs.Items.{frame_of_item, items_in_frame}
 use Rattle.placed_matrix.specs.Placed.{Placed, SameFrame}
 use Rattle.placed_matrix.specs.Frames.{label_in, identifiers_of, frame_identifiers, grouping_of}
 use Rattle.placed_matrix.specs.Tables.{HasRows}
-use Rattle.placed_matrix.proofs.FrameLabels.{is_grouping, classes_of_frames, label_test}
-use Rattle.placed_matrix.proofs.InOrder.{AllDifferent-distinct, All-distinct}
+use Rattle.placed_matrix.proofs.FrameClasses.{class_of-labelled, class_of_label, label_low, label_of_item}
+use Rattle.placed_matrix.proofs.FrameLabels.{is_grouping}
+use Rattle.placed_matrix.proofs.InOrder.{All-distinct}
 use Rattle.placed_matrix.proofs.ItemsSoFar.{none_kept}
 use Rattle.placed_matrix.proofs.RowItems.{row_of_item, either, one_kind}
-
--- the class of a label among what is labelled by a test of itself
-class_of-labelled : {X : Type 0} (f : ℕ → ℕ) (h : X → ℕ) (label : ℕ) (xs : List X) → class_of label (map f (map h xs)) xs ≡ filter (λ x. nat_eq (f (h x)) label) xs
-class_of-labelled f h label [] = refl
-class_of-labelled f h label (x ∷ xs) =
-    class_of-cons label (f (h x)) (map f (map h xs)) x xs ∙ ap (λ ys. cond (nat_eq (f (h x)) label) (x ∷ ys) ys) (class_of-labelled f h label xs)
 
 -- pairs of equal values where each value is one
 pairs_of_one : {X Y : Type 0} (f : X → Y) (y : Y) (xs : List X) → All (λ x. f x ≡ y) xs → AllPairs (λ x z. f x ≡ f z) xs
@@ -100,28 +94,15 @@ module _ (problem : Parts) (stands : IsProblem problem) (sorted : IsSorted probl
 
   -- each label's class can be a frame
   class_stands : (label : ℕ) → ClassStands (class_of label (grouping_of problem rows) problem.items)
-  class_stands label =
-      subst ClassStands (sym (class_of-labelled (label_in (frame_identifiers problem rows)) (frame_of_item problem rows) label problem.items)) (by (cases_lt label (length (frame_identifiers problem rows))))
+  class_stands label = by (cases_lt label (length (frame_identifiers problem rows)))
     where
-      low : (k : ℕ) (d : Item) → k < length problem.items → label_in (frame_identifiers problem rows) (frame_of_item problem rows (get_or problem.items k d)) < length (frame_identifiers problem rows)
-      low k d lt =
-          let in_ids : k < length (identifiers_of problem rows) = simp length-map lt in
-          let in_labels : k < length (grouping_of problem rows) = simp length-map lt in
-          let same : get_or (grouping_of problem rows) k 0 ≡ label_in (frame_identifiers problem rows) (frame_of_item problem rows (get_or problem.items k d)) =
-          get_or-map (label_in (frame_identifiers problem rows)) (identifiers_of problem rows) k 0 0 in_ids
-          ∙ ap (label_in (frame_identifiers problem rows)) (get_or-map (frame_of_item problem rows) problem.items k d 0 lt) in
-          omega (arith, same, label-lt-classes_of (grouping_of problem rows) k in_labels, classes_of_frames problem rows)
-
-      by : (label < length (frame_identifiers problem rows)) ⊎ (length (frame_identifiers problem rows) ≤ label) → ClassStands (filter (λ item. nat_eq (label_in (frame_identifiers problem rows) (frame_of_item problem rows item)) label) problem.items)
-      by (inl lt) =
-          subst ClassStands
-          (sym (filter_agree (λ item. nat_eq (label_in (frame_identifiers problem rows) (frame_of_item problem rows item)) label) (λ item. nat_eq (frame_of_item problem rows item) (get_or (frame_identifiers problem rows) label 0))
-          (λ item. label_test (frame_identifiers problem rows) (AllDifferent-distinct (identifiers_of problem rows)) label (frame_of_item problem rows item) lt) problem.items))
-          (frame_stands (get_or (frame_identifiers problem rows) label 0) (has_row label 0 lt))
+      by : (label < length (frame_identifiers problem rows)) ⊎ (length (frame_identifiers problem rows) ≤ label) → ClassStands (class_of label (grouping_of problem rows) problem.items)
+      by (inl lt) = subst ClassStands (sym (class_of_label problem rows label lt)) (frame_stands (get_or (frame_identifiers problem rows) label 0) (has_row label 0 lt))
       by (inr ge) =
           subst ClassStands
-          (sym (none_kept (λ item. nat_eq (label_in (frame_identifiers problem rows) (frame_of_item problem rows item)) label) problem.items
-          (λ k d lt. ne_eqb _ label (λ same. omega (arith, same, low k d lt)))))
+          (sym (class_of-labelled (label_in (frame_identifiers problem rows)) (frame_of_item problem rows) label problem.items
+          ∙ none_kept (λ item. nat_eq (label_in (frame_identifiers problem rows) (frame_of_item problem rows item)) label) problem.items
+          (λ k d lt. ne_eqb _ label (λ same. omega (arith, same, label_of_item problem rows k d lt, label_low problem rows k lt)))))
           none_stands
 
   pub is_legal : IsLegal problem.items (grouping_of problem rows)

@@ -2,6 +2,7 @@ pub mod ApartLaws
 pub mod Counts
 pub mod FirstRows
 pub mod FoundLegal
+pub mod FrameClasses
 pub mod FrameLabels
 pub mod FramesFound
 pub mod InOrder
@@ -18,5 +19,4 @@ pub mod PlacedLaws
 pub mod RowFacts
 pub mod RowItems
 pub mod RowsFound
-pub mod Tallies
 pub mod Together

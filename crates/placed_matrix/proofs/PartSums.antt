@@ -9,7 +9,7 @@ use Rattle.pack_model.specs.declared.item.Item.{Item}
 use Rattle.container_pdu.specs.declared.header.Header.TheVariants.{NoHeader, Short, Long}
 use Rattle.container_pdu.specs.Bytes.{header_bytes}
 use Rattle.class_frame.specs.Frame.{ids_of, header_of_items, bytes_of_item, bytes_of_items}
-use Rattle.placed_matrix.proofs.Tallies.{some_pdu}
+use Rattle.class_frame.proofs.Headers.{some_pdu}
 
 module _ {X : Type 0} (f : X → ℕ) where
   one_more : (p : X → Bool) (x : X) (xs : List X) → sum_by f (filter p (x ∷ xs)) ≡ cond (p x) (f x) 0 + sum_by f (filter p xs)

@@ -1,6 +1,6 @@
 -- Tables by identifier and by signal, which the checks of a matrix fill in one pass over its rows.
-use Rattle.std.specs.Prelude.{ℕ, Bool, true, ◌≡◌, ◌≢◌, ◌==◌, ◌+◌, ◌*◌, ◌^◌, ◌<◌, ◌≤◌, nat_eq, nat_lt, List, [], filter, not, Option, Some, None, is_some, IsSome, slice_index, slice_index_or, length, sum_by, All, if◌then◌else◌}
-use Rattle.std.specs.List.{list_all, list_any, position_or_len}
+use Rattle.std.specs.Prelude.{ℕ, ◌≡◌, ◌≢◌, ◌==◌, ◌+◌, ◌*◌, ◌<◌, ◌≤◌, nat_eq, nat_lt, List, [], filter, not, Option, Some, None, is_some, IsSome, slice_index, slice_index_or, length, sum_by, All, if◌then◌else◌}
+use Rattle.std.specs.List.{list_any, position_or_len}
 use Rattle.pack_model.specs.declared.item.Item.{Item}
 use Rattle.pack_model.specs.declared.signal.Signal.{Signal}
 use Rattle.pack_model.specs.Problem.{Parts, names_of}
@@ -11,10 +11,9 @@ use Rattle.ipdu_layout.specs.declared.place.Place.{Place}
 use Rattle.container_pdu.specs.declared.header.Header.{Header}
 use Rattle.container_pdu.specs.declared.header.Header.TheVariants.{NoHeader}
 use Rattle.container_pdu.specs.Bytes.{header_bytes}
-use Rattle.class_frame.specs.Frame.{header_of_items, bytes_of_item, ids_of}
+use Rattle.class_frame.specs.Frame.{header_of_items, bytes_of_item}
 use Rattle.matrix_rows.specs.declared.matrix.MatrixRow.{MatrixRow}
 use Rattle.placed_matrix.specs.declared.fits.PartFigures.{PartFigures}
-use Rattle.placed_matrix.specs.declared.tally.Tally.{Tally}
 use Rattle.placed_matrix.specs.Items.{is_named, frame_of_item, at_of_item, items_in_frame}
 use Rattle.placed_matrix.specs.Placed.{SameFrame, BeginApart, InARow, FrameFits, InsidePart, bytes_of_pdu}
 use Rattle.placed_matrix.specs.Frames.{label_in}
@@ -85,24 +84,6 @@ SamePart row other = IsSome row.pdu → row.pdu ≡ other.pdu → (row.id ≡ ot
 pub record StandTogether (row other : MatrixRow) : Type 0 where
   pub part : SamePart row other
   pub apart : BeginApart row other
-
--- the item is free or has an id of 24 bits at most
-abbrev pub is_short : Option ℕ → Bool
-is_short None = true
-is_short (Some id) = nat_lt id (2 ^ 24)
-
--- what items are together: how many I-PDUs, whether each has an id of 24 bits at most, their bytes and their bits
-pub record IsTally (items : List Item) (tally : Tally) : Type 0 where
-  pub pdus : tally.pdus ≡ length (ids_of items)
-  pub short : tally.short ≡ list_all (λ item. is_short item.pdu) items
-  pub bytes : tally.bytes ≡ sum_by bytes_of_item items
-  pub bits : tally.bits ≡ sum_by (λ item. item.bits) items
-
--- the tally is no more than that of so many items
-pub record TallyWithin (items : ℕ) (tally : Tally) : Type 0 where
-  pub pdus : tally.pdus ≤ items
-  pub bytes : tally.bytes ≤ 64 * items
-  pub bits : tally.bits ≤ 512 * items
 
 -- those of the items that are in the frame and whose part begins before a byte
 abbrev pub parts_before : Parts → List MatrixRow → ℕ → ℕ → List Item → List Item

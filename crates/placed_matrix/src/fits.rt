@@ -3,12 +3,15 @@ ghost use Rattle.std.specs.Prelude.{◌≡◌, ◌≤◌, ◌↔◌, All, AllPai
 ghost use Rattle.pack_model.specs.Network.{NetworkStands};
 ghost use Rattle.fd_length.specs.Size.{fd_size_of};
 ghost use Rattle.frame_ticks.specs.Worst.{worst_ticks_of};
+ghost use Rattle.class_frame.specs.Sums.{AreSums, IsSmall};
+ghost use Rattle.placed_matrix.specs.Frames.{grouping_of};
+ghost use Rattle.placed_matrix.specs.Items.{items_in_frame};
 ghost use Rattle.placed_matrix.specs.Placed.{OneRow, bytes_of_pdu};
 ghost use Rattle.matrix_rows.specs.Row.{RowInRange};
 ghost use Rattle.placed_matrix.specs.Tables.{AllFound, AtOnePlace, HasRows, InPart, BeginsAfter, MeetsFigures, RowFits, RowMeets, RowsOf, SamePart, bytes_of_part, bytes_under, parts_before};
 
 use crate::frames::first_row;
-use crate::tally::tally_of;
+use class_frame::{Sums, class_sums};
 use container_pdu::Header;
 use fd_length::fd_size;
 use frame_ticks::worst_ticks;
@@ -29,17 +32,25 @@ struct PartFigures {
 }
 
 /// Whether each row fits its frame: its header, its part's place, its size and ticks, and its bits.
-pub fn rows_fit(problem: &Problem, rows: &[MatrixRow], row_of: &[usize; 2048]) -> bool
+pub fn rows_fit(
+    problem: &Problem,
+    rows: &[MatrixRow],
+    row_of: &[usize; 2048],
+    labels: &[u32],
+) -> bool
     requires in_range { All RowInRange rows.now }
     requires one { OneRow problem.now.signals rows.now }
     requires rows { HasRows problem.now.signals rows.now row_of.now }
     requires parts { AllPairs SamePart rows.now }
+    requires labels { labels.now ≡ grouping_of problem.now rows.now }
     ensures { IsTrue result ↔ All (RowFits problem.now rows.now) rows.now }
 {
     let items = problem.items();
-    for item in items {
+    let sums = class_sums(problem, items, labels);
+    for (number, item) in items.iter().enumerate() {
         let first = first_row(rows, row_of, item);
-        if !part_fits(problem, rows, row_of, item.members.as_slice(), first) {
+        let frame = sums[labels[number] as usize];
+        if !part_fits(problem, rows, row_of, item.members.as_slice(), first, frame) {
             return false;
         }
     }
@@ -47,24 +58,26 @@ pub fn rows_fit(problem: &Problem, rows: &[MatrixRow], row_of: &[usize; 2048]) -
 }
 
 /// Whether the rows of the signals of these places, which all stand in the part of the first, fit
-/// their frame.
+/// their frame, whose items have these sums.
 fn part_fits(
     problem: &Problem,
     rows: &[MatrixRow],
     row_of: &[usize; 2048],
     places: &[u32],
     first: &MatrixRow,
+    sums: Sums,
 ) -> bool
     requires in_range { All RowInRange rows.now }
     requires rows { HasRows problem.now.signals rows.now row_of.now }
     requires found { AllFound rows.now row_of.now places.now }
     requires place { RowsOf (λ row. AtOnePlace row first.now) rows.now row_of.now places.now }
     requires pdu { RowsOf (λ row. row.pdu ≡ first.now.pdu) rows.now row_of.now places.now }
+    requires sums { AreSums problem.now (items_in_frame problem.now rows.now first.now.id) sums }
+    requires small { IsSmall sums }
     ensures { IsTrue result ↔ RowsOf (RowFits problem.now rows.now) rows.now row_of.now places.now }
 {
-    let tally = tally_of(problem, rows, row_of, first.id);
-    let header = tally.header();
-    let frame = tally.frame_bytes();
+    let header = sums.header();
+    let frame = sums.frame_bytes();
     let part = part_bytes(problem, first, frame);
     let before = bytes_before(problem, rows, row_of, first, header);
     let figures = PartFigures {

@@ -40,14 +40,11 @@ pub fn labels_of(
 {
     let rows = matrix.rows();
     let row_of = find_rows(problem, rows)?;
-    if !frames_agree(rows)
-        || !parts_agree(problem, rows, &row_of)
-        || !rows_fit(problem, rows, &row_of)
-    {
+    if !frames_agree(rows) || !parts_agree(problem, rows, &row_of) {
         return None;
     }
     let label_of = number_frames(problem, rows, &row_of, labels);
-    if !are_apart(rows, &label_of) {
+    if !rows_fit(problem, rows, &row_of, labels) || !are_apart(rows, &label_of) {
         return None;
     }
     Some(put_in_order(&label_of, order) as u32)

@@ -10,6 +10,5 @@ mod frames;
 mod labels;
 mod overlap;
 mod signal_rows;
-mod tally;
 
 pub use labels::labels_of;

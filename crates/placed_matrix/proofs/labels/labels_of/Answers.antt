@@ -12,7 +12,7 @@ use Rattle.placed_matrix.proofs.PlacedLaws.{labels_apart, in_use_order, frames-l
 use Rattle.placed_matrix.proofs.FrameLabels.{classes_of_frames, is_order, order_length}
 use Rattle.placed_matrix.proofs.FoundLegal.{is_legal}
 use Rattle.placed_matrix.proofs.labels.labels_of.Goals as goal
-use Rattle.placed_matrix.proofs.labels.labels_of.Goals.{then-not-frames_agree-via-then-not-frames_agree, then-not-frames_agree-via-else-not-frames_agree+then-not-parts_agree, then-not-frames_agree-via-else-not-frames_agree+else-not-parts_agree+then-not-rows_fit}
+use Rattle.placed_matrix.proofs.labels.labels_of.Goals.{then-not-frames_agree-via-then-not-frames_agree, then-not-frames_agree-via-else-not-frames_agree+then-not-parts_agree, then-not-rows_fit-via-then-not-rows_fit, then-not-rows_fit-via-else-not-rows_fit+then-not-are_apart}
 
 pub returns-then-not-frames_agree-clause-not_placed : goal.returns-then-not-frames_agree-clause-not_placed
 returns-then-not-frames_agree-clause-not_placed c = λ _ given.
@@ -23,7 +23,6 @@ returns-then-not-frames_agree-clause-not_placed c = λ _ given.
         part = (placed.one_kind i j d before within).part;
         apart = placed.parts_begin_apart i j d before within;
       }))
-      | then-not-frames_agree-via-else-not-frames_agree+else-not-parts_agree+then-not-rows_fit w ↦ false≢true (sym w.if-not-rows_fit.true ∙ w.rows_fit.ensures.1 (rows_fit c.args.problem.now c.rows-rows.result.now placed))
     ]
 
 pub parts_agree-requires-clause-frames : goal.parts_agree-requires-clause-frames
@@ -43,10 +42,13 @@ are_apart-requires-clause-labels c =
     labels_apart c.args.problem.now c.number_frames-label_of.ensures.problem.0 c.number_frames-label_of.ensures.problem.1 c.rows-rows.result.now c.in_ok-row_of.ensures.0 c.in_ok-row_of.row_of c.in_ok-row_of.ensures.1 (λ i j d before within. (c.parts_agree.ensures.0 c.if-not-parts_agree.false i j d before within).part)
     c.number_frames-label_of.result c.rows-rows.ensures.in_range c.number_frames-label_of.ensures.table
 
-pub returns-then-not-are_apart-clause-not_placed : goal.returns-then-not-are_apart-clause-not_placed
-returns-then-not-are_apart-clause-not_placed c = λ _ given.
+pub returns-then-not-rows_fit-clause-not_placed : goal.returns-then-not-rows_fit-clause-not_placed
+returns-then-not-rows_fit-clause-not_placed c = λ _ given.
     let placed : Placed c.args.problem.now c.rows-rows.result.now = subst (Placed c.args.problem.now) (sym c.rows-rows.ensures.rows) given in
-    false≢true (sym c.if-not-are_apart.true ∙ c.are_apart.ensures.1 placed.no_overlap)
+    elim c.then-not-rows_fit.branch [
+      | then-not-rows_fit-via-then-not-rows_fit w ↦ false≢true (sym w.if-not-rows_fit.true ∙ c.rows_fit.ensures.1 (rows_fit c.args.problem.now c.rows-rows.result.now placed))
+      | then-not-rows_fit-via-else-not-rows_fit+then-not-are_apart w ↦ false≢true (sym w.if-not-are_apart.true ∙ w.are_apart.ensures.1 placed.no_overlap)
+    ]
 
 pub put_in_order-requires : goal.put_in_order-requires
 put_in_order-requires c =
