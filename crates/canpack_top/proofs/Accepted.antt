@@ -55,9 +55,9 @@ unfolding line_words
 placed_text = record {
   marked = record { kind = KindPlaced; frames = []; lemmas = []; main_tree = None };
   in_range = record {
-      stands = record { parts = (refl, refl, refl); lemmas_stand = tt; main_stands = tt };
-      numbers = (tt, (tt, (tt, tt)));
-    };
+    stands = record { parts = (refl, refl, refl); lemmas_stand = tt; main_stands = tt };
+    numbers = (tt, (tt, (tt, tt)));
+  };
   unmarked = refl;
   text = refl;
 }

@@ -2,7 +2,6 @@
 use Rattle.std.specs.Prelude.{ℕ, Option, Some, None}
 use Rattle.csv_table.specs.declared.columns.ColumnFault.{ColumnFault}
 use Rattle.csv_table.specs.declared.columns.ColumnFault.TheVariants as fault
-
 pub use Rattle.pack_model.specs.Gives.{Explains, Gives}
 
 -- the column that broke its rule

@@ -31,4 +31,3 @@ ticks_of-at_least network id esi payload =
     let product : 30 * network.nominal_ticks ≤ (length (stuffed_of no_run (nominal_bits_of id)) + 13) * network.nominal_ticks =
     mul-le-mul_right network.nominal_ticks least in
     rw (to_brs-bits_of id esi payload, after_brs-bits_of id esi payload, size_of_bits-bits_of id esi payload) (omega arith)
-
