@@ -1,0 +1,4 @@
+pub mod Classes
+pub mod Fronts
+pub mod Options
+pub mod Puts
