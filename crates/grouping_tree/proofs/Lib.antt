@@ -2,3 +2,5 @@ pub mod Classes
 pub mod Fronts
 pub mod Options
 pub mod Puts
+pub mod Steps
+pub mod Used

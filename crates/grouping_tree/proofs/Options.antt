@@ -8,7 +8,6 @@ use Rattle.class_frame.specs.Grouping.{class_of, classes_of}
 use Rattle.class_frame.specs.Frame.{bytes_of_items, is_pdu}
 use Rattle.class_frame.specs.Legal.{ClassStands}
 use Rattle.grouping_tree.specs.Partial.{IsPartial, begins, same_kind, alike, is_class, keeps_legal, options_of}
-use Rattle.grouping_tree.proofs.Fronts.{begins-is, partial-append}
 
 both : (a b : Bool) → a ≡ true → b ≡ true → (a && b) ≡ true
 both true b e f = f
@@ -122,47 +121,15 @@ take-front [] [] = refl
 take-front [] (b ∷ r) = refl
 take-front (a ∷ p) r = ap (λ (t : List ℕ). a ∷ t) (take-front p r)
 
--- the label that a legal grouping puts next is an option, once
+-- the label that a legal grouping puts next is at most the first unused one
+pub next-low : (items : List Item) (p : List ℕ) (l : ℕ) → IsPartial items (p ++ l ∷ []) → l ≤ classes_of p
+next-low items p l h =
+    let first : get_or (p ++ l ∷ []) (length p) 0 ≤ classes_of (take (length p) (p ++ l ∷ [])) = h.by_first_use (length p) (omega (arith, length-append p (l ∷ []))) in
+    subst (λ n. n ≤ classes_of p) (get_or-next p [] l 0) (subst (λ t. get_or (p ++ l ∷ []) (length p) 0 ≤ classes_of t) (take-front p (l ∷ [])) first)
+
+-- and an option, once
 pub next-once : (items : List Item) (p : List ℕ) (l : ℕ) → IsPartial items (p ++ l ∷ []) → count_by (λ x. nat_eq x l) (options_of items p) ≡ 1
 next-once items p l h =
-    let long = length-append p (l ∷ []) in
-    let room : nat_lt (length p) (length items) ≡ true = lt-ltb (length p) (length items) (omega (arith, long, h.within)) in
-    let first : get_or (p ++ l ∷ []) (length p) 0 ≤ classes_of (take (length p) (p ++ l ∷ [])) = h.by_first_use (length p) (omega (arith, long)) in
-    let low : l ≤ classes_of p = subst (λ n. n ≤ classes_of p) (get_or-next p [] l 0) (subst (λ t. get_or (p ++ l ∷ []) (length p) 0 ≤ classes_of t) (take-front p (l ∷ [])) first) in
+    let room : nat_lt (length p) (length items) ≡ true = lt-ltb (length p) (length items) (omega (arith, length-append p (l ∷ []), h.within)) in
+    let low = next-low items p l h in
     rw room (count-filter (keeps_legal items p) l (is_class-from (class_of l (p ++ l ∷ []) items) (h.classes l)) (range_with_len 0 (classes_of p + 1)) ∙ range-once l 0 (classes_of p + 1) (omega arith) (omega arith))
-
-begins-not : (p r q : List ℕ) → begins p q ≡ false → begins (p ++ r) q ≡ false
-begins-not [] r q e = absurd cc
-begins-not (a ∷ p) r [] e = refl
-begins-not (a ∷ p) r (b ∷ q) e = by (nat_eq a b) e (begins-not p r q)
-  where
-    by : (c : Bool) → (c && begins p q) ≡ false → (begins p q ≡ false → begins (p ++ r) q ≡ false) → (c && begins (p ++ r) q) ≡ false
-    by true f ih = ih f
-    by false f ih = refl
-
-begins-next : (p r : List ℕ) (x l : ℕ) → begins (p ++ x ∷ []) (p ++ l ∷ r) ≡ nat_eq x l
-begins-next [] r x l = by (nat_eq x l)
-  where
-    by : (b : Bool) → (b && true) ≡ b
-    by true = refl
-    by false = refl
-begins-next (a ∷ p) r x l = rw (eq-eqb a a refl) (begins-next p r x l)
-
--- of the options at p as many lead to a legal grouping as it extends p: one or none
-pub options-count : (items : List Item) (p q : List ℕ) → length p < length q → IsPartial items q → count_by (λ l. begins (p ++ l ∷ []) q) (options_of items p) ≡ cond (begins p q) 1 0
-options-count items p q lt h = by (begins p q) refl
-  where
-    ends : (r : List ℕ) → q ≡ p ++ r → count_by (λ l. begins (p ++ l ∷ []) q) (options_of items p) ≡ 1
-    ends [] e = absurd (omega (arith, ap length e, length-append p []))
-    ends (l ∷ r) e =
-        let split : IsPartial items ((p ++ l ∷ []) ++ r) = subst (IsPartial items) (e ∙ sym (assoc p l r)) h in
-        count-same (λ x. begins (p ++ x ∷ []) q) (λ x. nat_eq x l) (λ x. ap (begins (p ++ x ∷ [])) e ∙ begins-next p r x l) (options_of items p)
-        ∙ next-once items p l (partial-append items (p ++ l ∷ []) r split)
-      where
-        assoc : (p : List ℕ) (l : ℕ) (r : List ℕ) → (p ++ l ∷ []) ++ r ≡ p ++ l ∷ r
-        assoc [] l r = refl
-        assoc (a ∷ p) l r = ap (λ (t : List ℕ). a ∷ t) (assoc p l r)
-
-    by : (b : Bool) → begins p q ≡ b → count_by (λ l. begins (p ++ l ∷ []) q) (options_of items p) ≡ cond b 1 0
-    by true e = ends (drop (length p) q) (begins-is p q e)
-    by false e = count-none (λ l. begins (p ++ l ∷ []) q) (λ l. begins-not p (l ∷ []) q e) (options_of items p)

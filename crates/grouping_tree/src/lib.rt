@@ -1,12 +1,14 @@
 //! Partial groupings of items, and the labels that may be put next.
 //!
 //! A partial grouping has labels for the first items, numbered by first use; its options are the labels that keep each
-//! class one that can become a frame. Nothing here takes memory.
+//! class one that can become a frame.
 #![tactic(auto)]
 
 mod laws;
+mod partial;
 
 pub use laws::{
     fronts_are_legal, full_is_legal, legal_is_partial, new_is_option, next_is_option,
     options_are_legal,
 };
+pub use partial::{Kept, Partial};

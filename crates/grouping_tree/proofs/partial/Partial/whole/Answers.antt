@@ -1,0 +1,21 @@
+use Rattle.std.proofs.Common.{List, get_or, ap, ◌∙◌, arith, rules}
+use Rattle.std.proofs.lemmas.List.{get_or-replicate}
+use Rattle.class_frame.specs.declared.sums.Sums.{Sums}
+use Rattle.grouping_tree.proofs.Used.{partial-none}
+use Rattle.grouping_tree.proofs.partial.Partial.whole.Goals as goal
+
+pub returns-clause-belongs : goal.returns-clause-belongs
+returns-clause-belongs c =
+    let sums = c.in_ok-vec-2.ensures.items_if_clones_equal (λ y h. h) in
+    record {
+      network = search rules;
+      inside = search rules;
+      within = omega arith;
+      labels_room = search rules;
+      sums_room = search rules;
+      undo_room = search rules;
+      legal = partial-none _;
+      low = λ i lt. absurd (omega arith);
+      sums = λ k d lt. ap (λ (l : List Sums). get_or l k d) sums ∙ get_or-replicate _ k c.none.result d lt ∙ c.none.ensures c.args.problem.now;
+      undo = λ i d lt. absurd (omega arith);
+    }
