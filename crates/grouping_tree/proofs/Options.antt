@@ -1,5 +1,5 @@
 -- The options are the labels that may be put next: each keeps the grouping legal, and a legal extension has its next label there once.
-use Rattle.std.proofs.Common.{◌≡◌, ℕ, zero, suc, ◌+◌, ◌<◌, ◌≤◌, ◌⊎◌, inl, inr, ◌&&◌, Bool, true, false, cond, List, [], ◌∷◌, ◌++◌, length, drop, take, get_or, filter, count_by, nat_eq, nat_lt, nat_le, AllPairs, refl, sym, ap, subst, ◌∙◌, arith, length-append}
+use Rattle.std.proofs.Common.{◌≡◌, ℕ, zero, suc, ◌+◌, ◌<◌, ◌≤◌, ◌⊎◌, inl, inr, ◌&&◌, Bool, true, false, cond, List, [], ◌∷◌, ◌++◌, length, take, get_or, filter, count_by, nat_eq, nat_lt, nat_le, AllPairs, refl, sym, ap, subst, ◌∙◌, arith, length-append}
 use Rattle.std.specs.List.{list_all, range_with_len}
 use Rattle.std.proofs.lemmas.Bool.{and_parts, eqb-true, eq-eqb, ne_eqb, le-leb, leb-true, lt-ltb, cases_lt}
 use Rattle.std.proofs.lemmas.List.Sums.{sum_by-cons, sum_by-append}
@@ -7,7 +7,7 @@ use Rattle.pack_model.specs.declared.item.Item.{Item}
 use Rattle.class_frame.specs.Grouping.{class_of, classes_of}
 use Rattle.class_frame.specs.Frame.{bytes_of_items, is_pdu}
 use Rattle.class_frame.specs.Legal.{ClassStands}
-use Rattle.grouping_tree.specs.Partial.{IsPartial, begins, same_kind, alike, is_class, keeps_legal, options_of}
+use Rattle.grouping_tree.specs.Partial.{IsPartial, same_kind, alike, is_class, keeps_legal, options_of}
 
 both : (a b : Bool) → a ≡ true → b ≡ true → (a && b) ≡ true
 both true b e f = f

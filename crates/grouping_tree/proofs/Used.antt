@@ -1,14 +1,14 @@
 -- What belonging gives: room for the next label, and small sums and a signal for each used label.
-use Rattle.std.proofs.Common.{◌≡◌, ◌<◌, ◌≤◌, ◌+◌, ℕ, [], ◌∷◌, ◌++◌, List, length, take, drop, get_or, All, sym, ap, subst, ◌∙◌, arith, length-append, length-take-le, refl}
+use Rattle.std.proofs.Common.{◌≡◌, ◌<◌, ◌≤◌, ◌+◌, ℕ, [], ◌∷◌, ◌++◌, List, length, take, drop, All, sym, subst, arith, length-append, length-take-le, refl}
 use Rattle.std.proofs.lemmas.List.Sorted.{IsPermutation-refl}
 use Rattle.pack_model.specs.declared.item.Item.{Item}
 use Rattle.pack_model.specs.Problem.{Parts, IsProblem, items_in_order}
 use Rattle.pack_model.proofs.ItemFacts.{IsItemOf, items_of_signals, small_items}
 use Rattle.pack_model.proofs.Laws.{tests}
 use Rattle.pack_model.proofs.ProblemItems.{of_problem}
-use Rattle.class_frame.specs.Grouping.{class_of, classes_of}
+use Rattle.class_frame.specs.Grouping.{classes_of}
 use Rattle.class_frame.specs.Laws.{HasSignal}
-use Rattle.class_frame.specs.Sums.{sums_of, IsSmall, AreSums}
+use Rattle.class_frame.specs.Sums.{sums_of, IsSmall}
 use Rattle.class_frame.proofs.GroupingLaws.{All-class_of, class_of-some, classes_of-le-length, used}
 use Rattle.class_frame.proofs.Used.{items_have_signal, class_is_small}
 use Rattle.grouping_tree.specs.Partial.{IsPartial}

@@ -1,5 +1,5 @@
 -- The laws of partial groupings: the project's own.
-use Rattle.std.specs.Prelude.{ℕ, ◌≡◌, ◌<◌, true, List, [], ◌∷◌, ◌++◌, length, count_by, slice_index, slice_index_or, nat_eq, All}
+use Rattle.std.specs.Prelude.{ℕ, ◌≡◌, ◌<◌, true, List, [], ◌∷◌, ◌++◌, length, count_by, slice_index_or, nat_eq, All}
 use Rattle.pack_model.specs.declared.item.Item.{Item}
 use Rattle.class_frame.specs.Grouping.{classes_of}
 use Rattle.class_frame.specs.Legal.{ClassStands, IsLegal}

@@ -1,7 +1,6 @@
-use Rattle.std.proofs.Common.{◌≡◌, Some, unwrap_or, sym, subst, ap, ◌∙◌, arith}
+use Rattle.std.proofs.Common.{Some, unwrap_or, sym, subst, ap, ◌∙◌, arith}
 use Rattle.fd_length.proofs.Sizes.{fd_size_of-some}
-use Rattle.pack_model.specs.Network.{NetworkStands}
-use Rattle.class_frame.specs.Frame.{bytes_of_items, weight_of_items}
+use Rattle.class_frame.specs.Frame.{bytes_of_items}
 use Rattle.class_frame.specs.Sums.{IsSmall}
 use Rattle.grouping_tree.specs.Grouped.{items_with}
 use Rattle.grouping_tree.proofs.Used.{used_room, used_signal, used_small}
