@@ -1,7 +1,10 @@
 -- The acceptance rule: when a matrix and a certificate of a problem show a verdict, and else which part fails first.
-use Rattle.std.specs.Prelude.{◌≡◌, ⊤, ℕ, List, [], ◌∷◌}
+use Rattle.std.specs.Prelude.{◌≡◌, ◌≤◌, ◌*◌, ⊤, ℕ, min, Bool, true, false, List, [], ◌∷◌, length, map, Option, None, Some}
+use Rattle.std.specs.Option.{option_map}
 use Rattle.pack_model.specs.Problem.{Parts}
-use Rattle.class_frame.specs.Classes.{load_of}
+use Rattle.class_frame.specs.Classes.{frames_of_classes, load_of}
+use Rattle.class_frame.specs.Frame.{least}
+use Rattle.response_test.specs.declared.evidence.Evidence.{Evidence}
 use Rattle.matrix_rows.specs.declared.matrix.MatrixRow.{MatrixRow}
 use Rattle.matrix_text.specs.Frames.{grouping_of}
 use Rattle.matrix_text.specs.Placed.{Placed}
@@ -9,6 +12,10 @@ use Rattle.cert_text.specs.declared.parts.Kind.{Kind}
 use Rattle.cert_text.specs.declared.parts.Kind.TheVariants.{KindPlaced, KindTimed, KindBetween, KindBest, KindNoSolution}
 use Rattle.cert_text.specs.declared.parts.FrameLine.{FrameLine}
 use Rattle.cert_text.specs.Parts.{CertParts}
+use Rattle.cert_text.specs.Trees.{Plain}
+use Rattle.bandwidth_bound.specs.Bounds.{lower8_of}
+use Rattle.bandwidth_bound.specs.Failing.{AreRefuted}
+use Rattle.bandwidth_bound.specs.Trees.{Goal, TreeStands, open_places}
 use Rattle.bandwidth_bound.specs.declared.verdict.Verdict.{Verdict}
 use Rattle.bandwidth_bound.specs.declared.verdict.Verdict.TheVariants as verdict
 use Rattle.bandwidth_bound.specs.declared.verdict.Part.{Part}
@@ -39,13 +46,57 @@ TimingOfKind KindBetween problem (row ∷ rows) lines = TimingStands problem (ro
 TimingOfKind KindBest problem rows lines = TimingStands problem rows lines
 TimingOfKind KindNoSolution problem rows lines = lines ≡ []
 
--- the tree part by kind: the kinds `placed` and `timed` have no trees, and no others are judged yet
-abbrev pub TreeOfKind : Kind → Type 0
-TreeOfKind KindPlaced = ⊤
-TreeOfKind KindTimed = ⊤
-TreeOfKind KindBetween = ⊥
-TreeOfKind KindBest = ⊥
-TreeOfKind KindNoSolution = ⊥
+-- the load of the matrix, where it has rows, in ticks a common period
+abbrev pub best_of : Parts → List MatrixRow → Option ℕ
+best_of problem [] = None
+best_of problem (row ∷ rows) = Some (load_of problem problem.items (grouping_of problem (row ∷ rows)))
+
+-- the classes that a fail leaf names are refuted at a partial grouping of all items
+abbrev pub ClassesFail : Parts → List ℕ → List (ℕ × Evidence) → Type 0
+ClassesFail problem p named =
+    AreRefuted (frames_of_classes problem problem.items p) problem.network.nominal_ticks problem.hyper named
+
+-- what the main tree is to show: that each grouping reaches the best, or can't meet all deadlines
+abbrev pub main_goal : Parts → Option ℕ → Bool → Goal
+main_goal problem best may_leave = record {
+  items = problem.items;
+  lower8 = lower8_of problem problem.items;
+  value = option_map (λ load. 8 * load) best;
+  may_leave = may_leave;
+  AreFailing = ClassesFail problem;
+}
+
+-- the main tree stands at the empty grouping
+abbrev pub MainStands : Parts → Option ℕ → Bool → Option Plain → Type 0
+MainStands problem best may_leave None = ⊥
+MainStands problem best may_leave (Some tree) = TreeStands (main_goal problem best may_leave) [] tree
+
+-- the places of the open leaves of the main tree
+abbrev pub open_of : Parts → Option Plain → List (List ℕ)
+open_of problem None = []
+open_of problem (Some tree) = open_places problem.items [] tree
+
+-- the least bound at the open leaves of the main tree, in eighths
+abbrev pub least_open : Parts → Option Plain → ℕ
+least_open problem tree = least (map (lower8_of problem problem.items) (open_of problem tree))
+
+-- the bound that a certificate of the kind `open` shows, in eighths: the least at its open leaves, and the best
+abbrev pub lower_of : Parts → Option ℕ → Option Plain → ℕ
+lower_of problem None tree = least_open problem tree
+lower_of problem (Some best) tree = min (least_open problem tree) (8 * best)
+
+-- the tree part by kind: the kinds `placed` and `timed` have no trees; for the others there is no lemma yet, and the main
+-- tree stands, for `open` with open leaves, and at least one
+abbrev pub TreeOfKind : Kind → Parts → List MatrixRow → CertParts → Type 0
+TreeOfKind KindPlaced problem rows cert = ⊤
+TreeOfKind KindTimed problem rows cert = ⊤
+TreeOfKind KindBetween problem rows cert =
+    (cert.lemmas ≡ []) × MainStands problem (best_of problem rows) true cert.main_tree
+    × (1 ≤ length (open_of problem cert.main_tree))
+TreeOfKind KindBest problem rows cert =
+    (cert.lemmas ≡ []) × MainStands problem (best_of problem rows) false cert.main_tree
+TreeOfKind KindNoSolution problem rows cert =
+    (cert.lemmas ≡ []) × MainStands problem (best_of problem rows) false cert.main_tree
 
 -- the matrix part of the rule
 abbrev pub MatrixHolds : Judged → Type 0
@@ -57,7 +108,7 @@ TimingHolds judged = TimingOfKind judged.cert.kind judged.problem judged.matrix 
 
 -- the tree part of the rule
 abbrev pub TreeHolds : Judged → Type 0
-TreeHolds judged = TreeOfKind judged.cert.kind
+TreeHolds judged = TreeOfKind judged.cert.kind judged.problem judged.matrix judged.cert
 
 -- the acceptance rule
 pub record RuleHolds (judged : Judged) : Type 0 where
@@ -69,13 +120,18 @@ pub record RuleHolds (judged : Judged) : Type 0 where
 abbrev pub load_in : Judged → ℕ
 load_in judged = load_of judged.problem judged.problem.items (grouping_of judged.problem judged.matrix)
 
--- the verdict is that of the kind, with the matrix's load where it names one; of the kinds with trees there is none yet
+-- the bound that the certificate shows, in eighths of ticks a common period
+abbrev pub lower_in : Judged → ℕ
+lower_in judged = lower_of judged.problem (best_of judged.problem judged.matrix) judged.cert.main_tree
+
+-- the verdict is that of the kind, with the matrix's load and the bound where it names them
 abbrev pub IsOfKind : Verdict → Judged → Type 0
 IsOfKind verdict.Placed judged = judged.cert.kind ≡ KindPlaced
 IsOfKind (verdict.Timed load) judged = (judged.cert.kind ≡ KindTimed) × (load ≡ load_in judged)
-IsOfKind (verdict.Between best lower) judged = ⊥
-IsOfKind (verdict.Best load) judged = ⊥
-IsOfKind verdict.NoSolution judged = ⊥
+IsOfKind (verdict.Between best lower) judged =
+    (judged.cert.kind ≡ KindBetween) × (best ≡ best_of judged.problem judged.matrix) × (lower ≡ lower_in judged)
+IsOfKind (verdict.Best load) judged = (judged.cert.kind ≡ KindBest) × (load ≡ load_in judged)
+IsOfKind verdict.NoSolution judged = judged.cert.kind ≡ KindNoSolution
 
 -- the rule holds, with this verdict
 pub record Accepts (judged : Judged) (shown : Verdict) : Type 0 where
