@@ -1,0 +1,4 @@
+pub mod Covers
+pub mod TreeClaims
+pub mod Standing
+pub mod Shown
