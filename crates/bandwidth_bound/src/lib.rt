@@ -4,6 +4,7 @@
 //! part that fails first, and what follows from a verdict.
 #![tactic(auto)]
 
+mod final_laws;
 mod verdict;
 
 pub use verdict::{Part, Verdict};
