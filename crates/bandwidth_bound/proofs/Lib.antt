@@ -1,4 +1,6 @@
 pub mod Covers
-pub mod TreeClaims
-pub mod Standing
+pub mod Extend
+pub mod Final
 pub mod Shown
+pub mod Standing
+pub mod TreeClaims
