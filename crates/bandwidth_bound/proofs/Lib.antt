@@ -1,5 +1,6 @@
 pub mod Covers
 pub mod Extend
+pub mod FailLeaves
 pub mod Final
 pub mod Loads
 pub mod Shown
