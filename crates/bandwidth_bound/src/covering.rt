@@ -19,8 +19,8 @@ pub fn standing_trees_hold()
     ensures { StandingTreesHold }
 {}
 
-/// Where the acceptance rule holds, a legal grouping of a smaller load than the best's extends a fail leaf; of
-/// the kind `none` each legal grouping does.
+/// Where the acceptance rule holds, a legal grouping of a smaller load than the best's extends a fail leaf;
+/// of the kind `none` each legal grouping does.
 pub fn fail_leaves_hold()
     ensures { FailLeavesHold }
 {}
