@@ -1,5 +1,5 @@
 -- Each legal grouping that extends the place of a standing tree extends the place of exactly one leaf.
-use Rattle.std.proofs.Common.{◌≡◌, ℕ, ◌+◌, ◌<◌, ◌&&◌, Bool, true, false, cond, List, [], ◌∷◌, ◌++◌, length, drop, count_by, nat_eq, refl, sym, ap, subst, ◌∙◌, arith, length-append, append_assoc}
+use Rattle.std.proofs.Common.{◌≡◌, ℕ, ◌<◌, ◌&&◌, Bool, true, false, cond, List, [], ◌∷◌, ◌++◌, length, drop, count_by, nat_eq, refl, sym, ap, subst, ◌∙◌, arith, length-append, append_assoc}
 use Rattle.std.proofs.lemmas.Bool.{eq-eqb}
 use Rattle.pack_model.specs.declared.item.Item.{Item}
 use Rattle.class_frame.specs.Legal.{IsLegal}
@@ -90,7 +90,7 @@ module _ (goal : Goal) (q : List ℕ) (legal : IsLegal goal.items q) where
         omega (
           arith,
           count-append (λ (leaf : Leaf). begins leaf.place q) (leaves goal.items (p ++ l ∷ []) tree)
-          (leaves_each goal.items p ls trees),
+              (leaves_each goal.items p ls trees),
           leaf-count (p ++ l ∷ []) tree h.0,
           leaf-count_each p ls trees h.1,
           counted (λ l. begins (p ++ l ∷ []) q) l ls,

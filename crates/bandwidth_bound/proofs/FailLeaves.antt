@@ -1,7 +1,6 @@
 -- The legal groupings that don't reach the best extend fail leaves.
 use Rattle.std.proofs.Common.{◌≡◌, ℕ, ◌*◌, ◌<◌, ◌≤◌, true, false, List, [], ◌∷◌, ◌++◌, All, Any, Contains, Option, None, Some, true≢false, refl, sym, subst, ◌∙◌, arith}
-use Rattle.std.specs.Option.{option_map}
-use Rattle.std.proofs.lemmas.List.Elements.{All-append, All-cons, All-contains, All-contains_itself, All-nil, Contains-get_or}
+use Rattle.std.proofs.lemmas.List.Elements.{All-append, All-cons, All-contains, All-contains_itself, All-nil}
 use Rattle.std.proofs.lemmas.List.Folds.{Any-from_list_any}
 use Rattle.response_test.specs.declared.evidence.Evidence.{Evidence}
 use Rattle.pack_model.specs.Problem.{Parts, IsProblem}
@@ -15,9 +14,9 @@ use Rattle.cert_text.specs.Trees.{Plain, Plains, bound, fail, inner, left, more,
 use Rattle.cert_text.specs.declared.parts.Kind.{Kind}
 use Rattle.cert_text.specs.declared.parts.Kind.TheVariants.{KindBest, KindNoSolution}
 use Rattle.bandwidth_bound.specs.Bounds.{Reaches}
-use Rattle.bandwidth_bound.specs.Covering.{ExtendsFailLeaf, FailLeavesRefuse, ReachesBest, leaves_of}
+use Rattle.bandwidth_bound.specs.Covering.{ExtendsFailLeaf, FailLeavesRefuse, ReachesBest}
 use Rattle.bandwidth_bound.specs.Laws.{BoundIsBelow}
-use Rattle.bandwidth_bound.specs.Rule.{ClassesFail, Judged, MainStands, MatrixOfKind, RuleHolds, TreeOfKind, best_of, main_goal}
+use Rattle.bandwidth_bound.specs.Rule.{Judged, MainStands, MatrixOfKind, RuleHolds, TreeOfKind, best_of, main_goal}
 use Rattle.bandwidth_bound.specs.Trees.{EachStands, Goal, Leaf, TreeStands, leaves, leaves_each}
 use Rattle.bandwidth_bound.proofs.Covers.{covers}
 use Rattle.bandwidth_bound.proofs.TreeClaims.{reaches-more, some_counted}

@@ -7,7 +7,6 @@ use Rattle.std.proofs.lemmas.List.Sums.{sum_by-le}
 use Rattle.pack_model.specs.declared.item.Item.{Item}
 use Rattle.pack_model.specs.Problem.{Parts, IsProblem}
 use Rattle.pack_model.proofs.Laws.{tests}
-use Rattle.busy_period.specs.Timed.{IsInRange}
 use Rattle.class_frame.specs.Classes.{load_of}
 use Rattle.class_frame.specs.Frame.{load_of_items, period_of_items, timed_of_items}
 use Rattle.class_frame.specs.Grouping.{class_of, classes_of}

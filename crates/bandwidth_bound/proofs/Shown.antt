@@ -1,5 +1,5 @@
 -- A legal grouping whose frames are shown to pass can meet all deadlines.
-use Rattle.std.proofs.Common.{◌≡◌, ℕ, ◌<◌, ◌≤◌, List, [], ◌∷◌, length, get_or, count_by, nat_eq, true, Any, Contains, subst, arith, eqb-true}
+use Rattle.std.proofs.Common.{◌≡◌, ℕ, List, [], ◌∷◌, length, get_or, count_by, nat_eq, true, Any, Contains, subst, arith, eqb-true}
 use Rattle.std.proofs.lemmas.List.Elements.{Contains-get_or}
 use Rattle.std.proofs.lemmas.List.Folds.{Any-from_list_any}
 use Rattle.std.proofs.lemmas.List.FromFn.{length-map-range_with_len}
@@ -10,8 +10,7 @@ use Rattle.class_frame.specs.Frame.{timed_of_items}
 use Rattle.class_frame.specs.Grouping.{IsOrder, class_of, classes_of}
 use Rattle.class_frame.specs.Legal.{IsLegal}
 use Rattle.class_frame.proofs.GroupingLaws.{distinct-order, found_from_count}
-use Rattle.response_test.specs.Frame.{FramePasses}
-use Rattle.response_test.specs.Order.{NamesEachOnce, OrderPasses}
+use Rattle.response_test.specs.Order.{NamesEachOnce}
 use Rattle.response_test.proofs.Verdicts.{passes_from_numbers}
 use Rattle.matrix_rows.specs.declared.matrix.MatrixRow.{MatrixRow}
 use Rattle.matrix_text.specs.Frames.{grouping_of, order_of}

@@ -1,7 +1,5 @@
 -- What the trees of a certificate show where the acceptance rule holds.
-use Rattle.std.proofs.Common.{◌≡◌, ℕ, ◌*◌, ◌≤◌, ◌⊎◌, inl, inr, ◌||◌, Bool, true, false, List, [], ◌∷◌, map, fold, min, Option, Some, None, refl, sym, ap, subst, arith}
-use Rattle.std.specs.List.{list_any}
-use Rattle.std.specs.Option.{option_map}
+use Rattle.std.proofs.Common.{◌≡◌, ℕ, ◌*◌, ◌≤◌, ◌⊎◌, inl, inr, ◌||◌, Bool, true, false, List, [], ◌∷◌, map, fold, min, Option, Some, None, refl, subst, arith}
 use Rattle.std.proofs.lemmas.List.Elements.{All-contains_itself}
 use Rattle.pack_model.specs.Problem.{Parts, IsProblem}
 use Rattle.class_frame.specs.Classes.{load_of}
@@ -12,8 +10,8 @@ use Rattle.matrix_rows.specs.declared.matrix.MatrixRow.{MatrixRow}
 use Rattle.matrix_text.specs.Frames.{grouping_of}
 use Rattle.cert_text.specs.Trees.{Plain}
 use Rattle.cert_text.specs.declared.parts.Kind.{Kind}
-use Rattle.cert_text.specs.declared.parts.Kind.TheVariants.{KindPlaced, KindTimed, KindBetween, KindBest, KindNoSolution}
-use Rattle.bandwidth_bound.specs.Bounds.{Reaches, lower8_of}
+use Rattle.cert_text.specs.declared.parts.Kind.TheVariants.{KindBetween, KindBest, KindNoSolution}
+use Rattle.bandwidth_bound.specs.Bounds.{lower8_of}
 use Rattle.bandwidth_bound.specs.Covering.{ReachesBest, TreesShow, extends_some}
 use Rattle.bandwidth_bound.specs.Follows.{EachReaches, NoneIsBetter, NoneIsSolvable}
 use Rattle.bandwidth_bound.specs.Laws.{BoundIsBelow, FailingIsFinal}
@@ -85,9 +83,9 @@ module _ (below : BoundIsBelow) (final : FailingIsFinal) where
     reached best tree h q solvable = elim (main_claims best false tree h q solvable) [
       | inl it ↦ it
       | inr some ↦ absurd (
-        let none : extends_some [] q ≡ true =
-        subst (λ places. extends_some places q ≡ true) (main_closed best tree h) some in
-        cc)
+          let none : extends_some [] q ≡ true =
+          subst (λ places. extends_some places q ≡ true) (main_closed best tree h) some in
+          cc)
     ]
 
     none_better : (rows : List MatrixRow) (tree : Option Plain)

@@ -1,5 +1,5 @@
 -- What a standing tree claims of each legal grouping that can meet all deadlines.
-use Rattle.std.proofs.Common.{◌≡◌, ℕ, ◌*◌, ◌<◌, ◌≤◌, ◌⊎◌, inl, inr, ◌||◌, Bool, true, false, cond, List, [], ◌∷◌, ◌++◌, count_by, Option, Some, None, true≢false, refl, sym, ap, ◌∙◌, arith}
+use Rattle.std.proofs.Common.{◌≡◌, ℕ, ◌*◌, ◌≤◌, ◌⊎◌, inl, inr, ◌||◌, Bool, true, false, cond, List, [], ◌∷◌, ◌++◌, count_by, Option, Some, None, true≢false, refl, sym, ap, ◌∙◌, arith}
 use Rattle.std.specs.List.{list_any}
 use Rattle.std.proofs.lemmas.List.Folds.{list_any-append}
 use Rattle.response_test.specs.declared.evidence.Evidence.{Evidence}
@@ -48,7 +48,7 @@ some_after test xs ys e =
 module _ (goal : Goal) (q : List ℕ) (legal : IsLegal goal.items q) (load : ℕ)
     (below : (p : List ℕ) → IsPartial goal.items p → begins p q ≡ true → goal.lower8 p ≤ 8 * load)
     (final : (p : List ℕ) (named : List (ℕ × Evidence)) → IsPartial goal.items p → begins p q ≡ true
-        → goal.AreFailing p named → ⊥) where
+    → goal.AreFailing p named → ⊥) where
   -- the value is reached, or one of the places is extended
   abbrev ReachesOr : List (List ℕ) → Type 0
   ReachesOr places = Reaches goal.value (8 * load) ⊎ (extends_some places q ≡ true)
@@ -88,12 +88,12 @@ module _ (goal : Goal) (q : List ℕ) (legal : IsLegal goal.items q) (load : ℕ
         by true f any first rest = elim (first f) [
           | inl reached ↦ inl reached
           | inr some ↦ inr (some_before (λ place. begins place q) (open_places goal.items (p ++ l ∷ []) tree)
-            (open_places_each goal.items p ls trees) some)
+              (open_places_each goal.items p ls trees) some)
         ]
         by false f any first rest = elim (rest any) [
           | inl reached ↦ inl reached
           | inr some ↦ inr (some_after (λ place. begins place q) (open_places goal.items (p ++ l ∷ []) tree)
-            (open_places_each goal.items p ls trees) some)
+              (open_places_each goal.items p ls trees) some)
         ]
 
 module _ (goal : Goal) (closed : goal.may_leave ≡ false) where
