@@ -1,7 +1,8 @@
 -- How great loads are.
-use Rattle.std.proofs.Common.{◌≡◌, ℕ, ◌*◌, ◌/◌, ◌<◌, ◌≤◌, ◌^◌, List, length, arith}
+use Rattle.std.proofs.Common.{◌≡◌, ℕ, ◌*◌, ◌/◌, ◌<◌, ◌≤◌, ◌^◌, List, length, drop, Contains, arith}
 use Rattle.std.specs.List.{range_with_len}
 use Rattle.std.proofs.Math.Nat.{mul-le-mul}
+use Rattle.std.proofs.lemmas.List.Elements.{All-contains_itself, All-drop, All-take}
 use Rattle.std.proofs.lemmas.List.FromFn.{get_or-range_with_len, length-range_with_len}
 use Rattle.std.proofs.lemmas.List.Sums.{sum_by-le}
 use Rattle.pack_model.specs.declared.item.Item.{Item}
@@ -10,7 +11,10 @@ use Rattle.pack_model.proofs.Laws.{tests}
 use Rattle.class_frame.specs.Classes.{load_of}
 use Rattle.class_frame.specs.Frame.{load_of_items, period_of_items, timed_of_items}
 use Rattle.class_frame.specs.Grouping.{class_of, classes_of}
+use Rattle.grouping_tree.specs.Grouped.{Belongs, labels_of, range_of}
 use Rattle.grouping_tree.specs.Partial.{IsPartial}
+use Rattle.grouping_tree.specs.declared.partial.Partial.{Partial}
+use Rattle.grouping_tree.proofs.Steps.{length-range}
 use Rattle.grouping_tree.proofs.Used.{classes_low}
 use Rattle.bandwidth_bound.specs.Bounds.{load8_of}
 use Rattle.bandwidth_bound.specs.Laws.{AreOf}
@@ -49,3 +53,19 @@ module _ (problem : Parts) (stands : IsProblem problem) (items : List Item) (of 
 
   pub loads_fit : length p ≤ 128 → load8_of problem items p < 2 ^ 128
   loads_fit few = omega (arith, load_low, classes_low items p partial)
+
+-- 8 times the load that a partial grouping keeps fits 128 bits
+pub kept_fits : (problem : Parts) (partial : Partial) → Belongs problem partial
+    → load8_of problem (range_of problem partial) (labels_of partial) < 2 ^ 128
+kept_fits problem partial belongs =
+    loads_fit problem belongs.stands (range_of problem partial)
+    (All-take (Contains problem.items) partial.many (drop partial.first problem.items)
+    (All-drop (Contains problem.items) partial.first problem.items (All-contains_itself problem.items)))
+    (labels_of partial) belongs.legal
+    (omega (
+      arith,
+      belongs.legal.within,
+      length-range partial.first partial.many problem.items belongs.inside,
+      belongs.inside,
+      (tests problem belongs.stands).few_items,
+    ))

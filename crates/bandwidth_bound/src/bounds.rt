@@ -1,5 +1,28 @@
 //! Loads and lower bounds, in eighths of ticks a common period.
+ghost use Rattle.std.specs.Prelude.{◌≡◌};
+ghost use Rattle.grouping_tree.specs.Grouped.{Belongs, labels_of, range_of};
+ghost use Rattle.bandwidth_bound.specs.Bounds.{load8_of, lower8_of};
 ghost use Rattle.bandwidth_bound.specs.Loads.{LoadsFit};
+
+use grouping_tree::Partial;
+use pack_model::Problem;
+
+/// The load of the classes so far, in eighths of ticks a common period. It takes no memory.
+pub fn load8(partial: &Partial, problem: &Problem) -> u128
+    requires { Belongs problem.now partial.now }
+    ensures { result ≡ load8_of problem.now (range_of problem.now partial.now) (labels_of partial.now) }
+{
+    8 * partial.kept_load()
+}
+
+/// The lower bound at a partial grouping, in eighths of ticks a common period: 8 times the load of each legal
+/// grouping that extends it is no less. It takes no memory.
+pub fn lower8(partial: &Partial, problem: &Problem) -> u128
+    requires { Belongs problem.now partial.now }
+    ensures { result ≡ lower8_of problem.now (range_of problem.now partial.now) (labels_of partial.now) }
+{
+    load8(partial, problem)
+}
 
 /// A load in eighths is below 2 to the power of 128, and so is the bound.
 pub fn loads_fit()

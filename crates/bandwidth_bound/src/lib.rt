@@ -9,7 +9,7 @@ mod covering;
 mod final_laws;
 mod verdict;
 
-pub use bounds::loads_fit;
+pub use bounds::{load8, loads_fit, lower8};
 pub use covering::{
     fail_leaves_hold, leaves_cover, shown_is_solvable, standing_trees_claim, standing_trees_hold,
 };
