@@ -4,6 +4,7 @@ pub mod Covering
 pub mod Failing
 pub mod Follows
 pub mod Laws
+pub mod Loads
 pub mod Rule
 pub mod Solvable
 pub mod Timing

@@ -4,11 +4,15 @@
 //! fails first, and what follows from a verdict. The laws say what a tree that stands shows of all groupings.
 #![tactic(auto)]
 
+mod bounds;
 mod covering;
 mod final_laws;
 mod verdict;
 
-pub use covering::{leaves_cover, shown_is_solvable, standing_trees_claim, standing_trees_hold};
+pub use bounds::loads_fit;
+pub use covering::{
+    fail_leaves_hold, leaves_cover, shown_is_solvable, standing_trees_claim, standing_trees_hold,
+};
 pub use final_laws::{
     bound_is_below, classes_extend, fail_set_is_final, failing_is_final, failing_sets_grow,
     loads_never_fall, refuted_is_failing,
