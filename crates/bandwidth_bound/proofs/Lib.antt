@@ -1,2 +1,3 @@
 pub mod Extend
 pub mod Final
+pub mod FinalNamed
