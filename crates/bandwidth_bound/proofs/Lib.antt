@@ -1,3 +1,4 @@
 pub mod Extend
 pub mod Final
+pub mod FinalChecks
 pub mod FinalNamed

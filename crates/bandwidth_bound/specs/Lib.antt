@@ -1,0 +1,9 @@
+pub mod Bounds
+pub mod Bus
+pub mod Failing
+pub mod Follows
+pub mod Laws
+pub mod Rule
+pub mod Solvable
+pub mod Timing
+pub mod Trees

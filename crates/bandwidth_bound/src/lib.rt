@@ -5,6 +5,8 @@
 #![tactic(auto)]
 
 mod failing;
+#[cfg(test)]
+mod failing_tests;
 mod final_laws;
 mod verdict;
 

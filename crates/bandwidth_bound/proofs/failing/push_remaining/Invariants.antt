@@ -5,4 +5,6 @@ use Rattle.final_trial.proofs.failing.push_remaining.Given as goal
 
 abbrev pub invariant-loop-number : goal.invariant-loop-number
 invariant-loop-number l =
-    l.order.items ≡ l.initial.order.items ++ filter (λ number. not (list_any (nat_eq number) l.members)) (range_with_len 0 l.number)
+    l.order.items
+    ≡ l.initial.order.items
+    ++ filter (λ number. not (list_any (nat_eq number) l.members)) (range_with_len 0 l.number)
