@@ -1,5 +1,6 @@
 pub mod Bounds
 pub mod Bus
+pub mod Covering
 pub mod Failing
 pub mod Follows
 pub mod Laws
