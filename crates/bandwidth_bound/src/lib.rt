@@ -1,11 +1,16 @@
 //! What a certificate can show of a problem and a matrix: the acceptance rule and its verdicts.
 //!
 //! The rule is definitions: its parts by the certificate's kind, the verdict where all hold, the part that
-//! fails first, and what follows from a verdict. The laws say what a tree that stands shows of all groupings.
+//! fails first, and what follows from a verdict. The laws say what a tree that stands shows of all groupings,
+//! that no load falls as items are put, and that a failing set is final. `refutes` judges evidence against
+//! some frames by its numbers.
 #![tactic(auto)]
 
 mod bounds;
 mod covering;
+mod failing;
+#[cfg(test)]
+mod failing_tests;
 mod final_laws;
 mod verdict;
 
@@ -13,6 +18,7 @@ pub use bounds::{load8, loads_fit, lower8};
 pub use covering::{
     fail_leaves_hold, leaves_cover, shown_is_solvable, standing_trees_claim, standing_trees_hold,
 };
+pub use failing::refutes;
 pub use final_laws::{
     bound_is_below, classes_extend, fail_set_is_final, failing_is_final, failing_sets_grow,
     loads_never_fall, refuted_is_failing,

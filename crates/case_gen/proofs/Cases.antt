@@ -65,6 +65,17 @@ made_more number place items items' state state' it more after =
       few = omega (arith, longer, it.few, count-le state);
     })
 
+-- the signals of the first senders are made
+pub made : (number place : ℕ) → IsMade number place (signals_of_senders number place) (start_of number place).state
+made number zero = none_made number
+made number (suc place) =
+    let start : Start = start_of number place in
+    let before : IsMade number place (signals_of_senders number place) start.state = made number place in
+    let next : place + 1 ≡ suc place = omega arith in
+    let Made : ℕ → Type 0 = λ n. IsMade number n (signals_of_senders number (suc place)) (start_of number (suc place)).state in
+    subst Made next (made_more number place (signals_of_senders number place) (signals_of_senders number (suc place)) start.state (start_of number (suc place)).state
+    before (ap (λ n. signals_of_senders number place ++ signals_of (place + 1) n start.state) (sym before.first)) refl)
+
 -- the network of each case stands
 pub case_network_stands : NetworkStands case_network
 case_network_stands = record {
@@ -104,14 +115,18 @@ signal_stands sender number state =
       jitter_high = omega arith;
     }
 
--- and so does each of a case
-pub signals_stand : (number senders : ℕ) → All SignalStands (signals_of_senders number senders)
-signals_stand number zero = λ k d inside. absurd (omega (arith, inside))
-signals_stand number (suc place) =
+-- what holds of each drawn signal holds of each of a case
+pub each_drawn : (P : Signal → Type 0) → ((sender number state : ℕ) → P (signal_of sender number state)) → (number senders : ℕ) → All P (signals_of_senders number senders)
+each_drawn P each number zero = λ k d inside. absurd (omega (arith, inside))
+each_drawn P each number (suc place) =
     let start : Start = start_of number place in
     let f : ℕ → Signal = λ k. signal_of (place + 1) (start.first + k) (state_after (next_state start.state) (2 * k)) in
-    All-append SignalStands (signals_of_senders number place) (signals_of (place + 1) start.first start.state) (signals_stand number place)
+    All-append P (signals_of_senders number place) (signals_of (place + 1) start.first start.state) (each_drawn P each number place)
     (λ k d inside.
     let within : k < count_of start.state = omega (arith, inside, length-map-range_with_len f 0 (count_of start.state)) in
-    subst SignalStands (sym (get_or-map-range_with_len f 0 (count_of start.state) k k d within (omega arith)))
-    (signal_stands (place + 1) (start.first + k) (state_after (next_state start.state) (2 * k))))
+    subst P (sym (get_or-map-range_with_len f 0 (count_of start.state) k k d within (omega arith)))
+    (each (place + 1) (start.first + k) (state_after (next_state start.state) (2 * k))))
+
+-- and so does each of a case
+pub signals_stand : (number senders : ℕ) → All SignalStands (signals_of_senders number senders)
+signals_stand number senders = each_drawn SignalStands signal_stands number senders

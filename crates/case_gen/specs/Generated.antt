@@ -1,8 +1,9 @@
 -- Generated cases: the project's own.
-use Rattle.std.specs.Prelude.{ℕ, zero, suc, ◌+◌, ◌*◌, List, [], ◌∷◌, ◌++◌, map, None, slice_index, codes, decimal}
+use Rattle.std.specs.Prelude.{◌≡◌, ◌≤◌, Ok, length, ℕ, zero, suc, ◌+◌, ◌*◌, List, [], ◌∷◌, ◌++◌, map, None, slice_index, codes, decimal}
 use Rattle.std.specs.List.{range_with_len}
 use Rattle.pack_model.specs.declared.network.Network.{Network}
 use Rattle.pack_model.specs.declared.signal.Signal.{Signal}
+use Rattle.pack_model.specs.Problem.{Parts, parts_of, problem_of}
 use Rattle.case_gen.specs.declared.generate.Case.{Case}
 use Rattle.case_gen.specs.Draws.{next_state, state_after, drawn}
 
@@ -70,3 +71,13 @@ senders_of number = 2 + drawn 3 number
 -- the case of a number
 abbrev pub case_of : ℕ → Case
 case_of number = record { network = case_network; signals = signals_of_senders number (senders_of number) }
+
+-- the parts of the problem of the case of a number
+abbrev pub parts_of_case : ℕ → Parts
+parts_of_case number = parts_of (case_of number).network (case_of number).signals
+
+-- What the case of a number is: a problem, of few signals and a short common period.
+pub record CaseStands (number : ℕ) : Type 0 where
+  pub problem : problem_of (case_of number).network (case_of number).signals ≡ Ok (parts_of_case number)
+  pub few : length (case_of number).signals ≤ 32
+  pub short : (parts_of_case number).hyper ≤ 8000000

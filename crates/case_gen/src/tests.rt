@@ -31,3 +31,12 @@ fn case_of_1(rt: HostRuntime) -> Result<(), Memory> {
     assert!(rt; signals[24].sender.bytes() == b"ECU4".as_slice());
     Ok(())
 }
+
+#[test]
+fn problem_of_case_1(rt: HostRuntime) -> Result<(), Memory> {
+    let problem = problem_of_case(rt.alloc(), 1)?;
+    assert_eq!(rt; problem.signals().len(), 25);
+    assert_eq!(rt; problem.senders().len(), 4);
+    assert_eq!(rt; problem.hyper(), 8_000_000);
+    Ok(())
+}

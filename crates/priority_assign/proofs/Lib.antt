@@ -3,3 +3,4 @@ pub mod Levels
 pub mod Filling
 pub mod Steps
 pub mod Checks
+pub mod OneOrder

@@ -9,8 +9,10 @@
 #![tactic(auto)]
 
 mod assignment;
+mod laws;
 mod level;
 #[cfg(test)]
 mod tests;
 
 pub use assignment::{Assigned, assign};
+pub use laws::one_order_is_lowest_first;
