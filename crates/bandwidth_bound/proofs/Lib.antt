@@ -2,12 +2,9 @@ pub mod Covers
 pub mod Extend
 pub mod FailLeaves
 pub mod Final
-<<<<<<< HEAD
-pub mod Loads
-=======
 pub mod FinalChecks
 pub mod FinalNamed
->>>>>>> final
+pub mod Loads
 pub mod Shown
 pub mod Standing
 pub mod TreeClaims
