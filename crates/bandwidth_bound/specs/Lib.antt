@@ -1,4 +1,5 @@
 pub mod Bus
 pub mod Follows
 pub mod Rule
+pub mod Solvable
 pub mod Timing
