@@ -1,0 +1,5 @@
+pub mod Accepted
+pub mod LeastLines
+pub mod OnePlan
+pub mod Orders
+pub mod Pushed

@@ -1,0 +1,7 @@
+//! Laws of plans.
+ghost use Rattle.plan_search.specs.Laws.{PlanAloneIsOne};
+
+/// A problem has one plan in which each item has a frame of its own.
+pub fn plan_alone_is_one()
+    ensures { PlanAloneIsOne }
+{}
