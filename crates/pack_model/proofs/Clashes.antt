@@ -141,7 +141,8 @@ met signals i s t first f lt same stands first_is at =
       in_front = omega arith;
       here = get_or-take i signals f.0 f.1 before ∙ sym stands.at;
       pdu = sym (apart s.pdu f.1.pdu i f.0 (λ e. omega arith)) ∙ same;
-      sender = nat_list_eq_equiv.symm s.sender f.1.sender ∙ ap (λ (u : Signal). bytes_eq u.sender s.sender) (sym is);
+      sender = nat_list_eq_equiv.symm s.sender f.1.sender
+          ∙ ap (λ (u : Signal). bytes_eq u.sender s.sender) (sym is);
     }
 
 -- a signal of its I-PDU's first sender clashes with none before it

@@ -77,7 +77,8 @@ kept : (front gs : List (ℕ × Signal)) (e f : ℕ × Signal) → same_item e f
     → map (places_with front) gs ≡ map (places_with (front ++ e ∷ [])) gs
 kept front [] e f same apart = refl
 kept front (g ∷ gs) e f same apart =
-    let other : same_item g e ≡ false = same_item_equivalence.symm g e ∙ same_item_equivalence.congr e f g same
+    let other : same_item g e ≡ false = same_item_equivalence.symm g e
+    ∙ same_item_equivalence.congr e f g same
     ∙ apart.0 in
     let here : places_with front g ≡ places_with (front ++ e ∷ []) g =
     sym (places_more front g e ∙ ap (λ b. places_with front g ++ cond b (e.0 ∷ []) []) other
@@ -195,7 +196,8 @@ first_in Q front (f ∷ fs) e heads all =
           All-head Q f fs all,
           ap (λ b. get_or (get_or (map (places_with front) (f ∷ fs))
               (cond (not b) (1 + position_or_len (same_item e) fs) 0) []) 0 e.0) same
-              ∙ All-head (λ (f : ℕ × Signal). (d : ℕ) → get_or (places_with front f) 0 d ≡ f.0) f fs heads e.0,
+              ∙ All-head (λ (f : ℕ × Signal). (d : ℕ) → get_or (places_with front f) 0 d ≡ f.0) f fs heads
+              e.0,
         )
     by false differ rest =
         let next : 1 + position_or_len (same_item e) fs ≡ suc (position_or_len (same_item e) fs) =

@@ -33,6 +33,7 @@ first_place p (x ∷ xs) h = by (p x) refl (first_place p xs)
         rest (sym (ap (λ b. b || list_any p xs) e) ∙ h) in rw e (omega arith)
 
 -- a search that finds nothing passes its first element and finds nothing in the rest
-pub none_from : (b : Bool) (n : ℕ) (o : Option ℕ) → (if b then Some n else o) ≡ None → (b ≡ false) × (o ≡ None)
+pub none_from : (b : Bool) (n : ℕ) (o : Option ℕ) → (if b then Some n else o) ≡ None
+    → (b ≡ false) × (o ≡ None)
 none_from true n o h = absurd (let wrong : Some n ≡ None = h in cc)
 none_from false n o h = (refl, h)

@@ -27,7 +27,8 @@ pub admitted : (signals named checked ordered : List Signal) (items listed : Lis
     → items ≡ items_in_order ordered → ordered ≡ signals → listed ≡ items
     → large ≡ option_map (λ item. unwrap_or item.pdu 0) (find is_too_large listed) → large ≡ None
     → IsAdmitted signals
-admitted signals named checked ordered items listed n empty large size tests not_empty few same_named different same_checked one made same_ordered same_listed searched none =
+admitted signals named checked ordered items listed n empty large size tests not_empty few same_named
+    different same_checked one made same_ordered same_listed searched none =
     let ne : n ≡ 0 → ⊥ = eqb-false n 0 (sym tests ∙ not_empty) in
     record {
       some = omega (arith, ne);

@@ -30,7 +30,9 @@ enum Key {
 /// whose I-PDU an earlier row of another sender has.
 pub fn places_by_item(alloc: Global, signals: &[Signal]) -> Result<Vec<Vec<u32>>, ProblemFault>
     requires { length signals.now ≤ MAX_SIGNALS }
-    ensures places { IfOk result (λ places. (map (λ list. list.items) places.items ≡ places_by_item signals.now) × (first_clash [] signals.now ≡ None)) }
+    ensures places { IfOk result
+        (λ places. (map (λ list. list.items) places.items ≡ places_by_item signals.now)
+        × (first_clash [] signals.now ≡ None)) }
     ensures fault { IfErr result (λ e. (e ≡ memory) ⊎ IsClash (first_clash [] signals.now) e) }
 {
     let mut keys = IndexSet::new(alloc);
@@ -63,8 +65,10 @@ fn put_at(
     place: u32,
 ) -> Result<u32, Memory>
     requires { number ≤ vec_len lists.old }
-    ensures lists { OnOk result (map (λ list. list.items) lists.new.items ≡ put_at number place (map (λ list. list.items) lists.old.items)) }
-    ensures first { IfOk result (λ first. first ≡ slice_index_or (slice_index_or (map (λ list. list.items) lists.old.items) number []) 0 place) }
+    ensures lists { OnOk result (map (λ list. list.items) lists.new.items
+        ≡ put_at number place (map (λ list. list.items) lists.old.items)) }
+    ensures first { IfOk result (λ first. first
+        ≡ slice_index_or (slice_index_or (map (λ list. list.items) lists.old.items) number []) 0 place) }
 {
     if number == lists.len() {
         lists.push(Vec::new(alloc))?;
@@ -153,7 +157,8 @@ pub fn large_pdu(items: &[Item]) -> Option<u32>
 
 /// Puts the items in order of their senders' numbers; those of one sender stay in order.
 pub fn sort_by_sender(items: &mut Vec<Item>) -> Result<(), Memory>
-    ensures order { OnOk result ((senders : ℕ) → All (λ item. item.sender < senders) items.old.items → items.new.items ≡ by_sender senders items.old.items) }
+    ensures order { OnOk result ((senders : ℕ) → All (λ item. item.sender < senders) items.old.items
+        → items.new.items ≡ by_sender senders items.old.items) }
     ensures same { IsPermutation items.old.items items.new.items }
 {
     items.sort_by_key(|item| item.sender)?;

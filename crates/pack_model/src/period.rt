@@ -15,7 +15,8 @@ pub const MAX_HYPER: u64 = 1_000_000_000_000_000;
 pub fn common_period(network: &Network, signals: &[Signal]) -> Option<u64>
     requires network { NetworkStands network.now }
     requires signals { All SignalStands signals.now }
-    ensures { MatchOption result (MAX_HYPER < hyper_of network.now signals.now) (λ hyper. (hyper ≡ hyper_of network.now signals.now) × (hyper ≤ MAX_HYPER)) }
+    ensures { MatchOption result (MAX_HYPER < hyper_of network.now signals.now)
+        (λ hyper. (hyper ≡ hyper_of network.now signals.now) × (hyper ≤ MAX_HYPER)) }
 {
     let mut hyper: u64 = 1;
     for signal in signals {
@@ -34,7 +35,8 @@ fn common_multiple(a: u64, b: u64) -> Option<u64>
     requires a_high { a ≤ MAX_HYPER }
     requires b_low { 1 ≤ b }
     requires b_high { b ≤ 100000000000 }
-    ensures { MatchOption result (MAX_HYPER < lcm a b) (λ multiple. (multiple ≡ lcm a b) × (multiple ≤ MAX_HYPER)) }
+    ensures { MatchOption result (MAX_HYPER < lcm a b)
+        (λ multiple. (multiple ≡ lcm a b) × (multiple ≤ MAX_HYPER)) }
 {
     let multiple = u128::from(a) * u128::from(b / common_divisor(a, b));
     if multiple > u128::from(MAX_HYPER) {

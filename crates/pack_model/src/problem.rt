@@ -95,12 +95,26 @@ impl Model for Problem {
 
     ghost Value = { Parts };
 
-    ghost view = { λ a. record { network = a.network; signals = a.signals.items; items = a.items.items; senders = a.senders.keys; hyper = a.hyper } };
+    ghost view = { λ a. record {
+      network = a.network;
+      signals = a.signals.items;
+      items = a.items.items;
+      senders = a.senders.keys;
+      hyper = a.hyper;
+    } };
 
     ghost use Rattle.std.specs.Prelude.{◌≡◌};
     ghost use Rattle.pack_model.specs.Problem.{names_of, IsProblem, IsSorted};
 
-    ghost invariant = { λ a. (a.names.keys ≡ names_of a.signals.items) × IsSorted a.signals.items a.items.items × IsProblem (record { network = a.network; signals = a.signals.items; items = a.items.items; senders = a.senders.keys; hyper = a.hyper }) };
+    ghost invariant = { λ a. (a.names.keys ≡ names_of a.signals.items)
+        × IsSorted a.signals.items a.items.items
+        × IsProblem (record {
+          network = a.network;
+          signals = a.signals.items;
+          items = a.items.items;
+          senders = a.senders.keys;
+          hyper = a.hyper;
+        }) };
 }
 
 impl Problem {
@@ -198,7 +212,8 @@ pub fn problem_of(
 /// The names of the signals, each at its signal's place, or the first row that is named twice.
 fn numbered_names(alloc: Global, signals: &[Signal]) -> Result<IndexSet<Name>, ProblemFault>
     requires { length signals.now ≤ MAX_SIGNALS }
-    ensures names { IfOk result (λ names. (names.keys ≡ names_of signals.now) × (first_repeat [] (names_of signals.now) ≡ None)) }
+    ensures names { IfOk result (λ names. (names.keys ≡ names_of signals.now)
+        × (first_repeat [] (names_of signals.now) ≡ None)) }
     ensures fault { IfErr result (λ e. (e ≡ memory) ⊎ IsRepeat (first_repeat [] (names_of signals.now)) e) }
 {
     let mut names = IndexSet::new(alloc);

@@ -12,7 +12,8 @@ loop-place-preserved c =
     let stands : SignalStands (get_or c.args.signals.now place c.index-signals-place.result) =
     c.requires.signals place c.index-signals-place.result inside in
     let more =
-    bits_more c.args.signals.now c.args.places.now c.loop-place.place-index c.index-signals-place.result c.loop-place-test.true inside c.index-signals-place.is in
+    bits_more c.args.signals.now c.args.places.now c.loop-place.place-index c.index-signals-place.result
+    c.loop-place-test.true inside c.index-signals-place.is in
     let few = stands.bits_high in
     let sum = c.loop-place.invariant.sum in
     let same = ap (λ (s : Signal). s.bits) c.index-signals-place.is in

@@ -14,8 +14,12 @@ returns-in_default c =
     c.in_default.ensures in
     let least : lcm c.loop-signal.hyper (c.from.result * c.from-in-loop-signal.result)
     ≤ hyper_of c.args.network.now c.args.signals.now =
-    period_least c.args.network.now c.args.signals.now c.loop-signal.signal-index c.signal-item.result c.loop-signal.hyper (c.from.result * c.from-in-loop-signal.result) c.requires.network c.requires.signals c.loop-signal-test.true c.signal-item.is period c.loop-signal.invariant.some
-    (period_some c.args.network.now c.args.signals.now c.loop-signal.signal-index c.signal-item.result _ c.requires.network c.requires.signals c.loop-signal-test.true c.signal-item.is period) c.loop-signal.invariant.rest in
+    period_least c.args.network.now c.args.signals.now c.loop-signal.signal-index c.signal-item.result
+    c.loop-signal.hyper (c.from.result * c.from-in-loop-signal.result) c.requires.network
+    c.requires.signals c.loop-signal-test.true c.signal-item.is period c.loop-signal.invariant.some
+    (period_some c.args.network.now c.args.signals.now c.loop-signal.signal-index c.signal-item.result _
+    c.requires.network c.requires.signals c.loop-signal-test.true c.signal-item.is period)
+    c.loop-signal.invariant.rest in
     omega arith
 
 pub loop-signal-preserved : goal.loop-signal-preserved
@@ -28,10 +32,13 @@ loop-signal-preserved c =
     c.in-Some.ensures.0 in
     let some : 1 ≤ lcm c.loop-signal.hyper (c.from.result * c.from-in-loop-signal.result) =
     lcm_some _ _ c.loop-signal.invariant.some
-    (period_some c.args.network.now c.args.signals.now c.loop-signal.signal-index c.signal-item.result _ c.requires.network c.requires.signals c.loop-signal-test.true c.signal-item.is period) in
+    (period_some c.args.network.now c.args.signals.now c.loop-signal.signal-index c.signal-item.result _
+    c.requires.network c.requires.signals c.loop-signal-test.true c.signal-item.is period) in
     record {
       some = omega arith;
       high = c.in-Some.ensures.1;
       rest =
-          period_more c.args.network.now c.args.signals.now c.loop-signal.signal-index c.signal-item.result c.loop-signal.hyper _ c.in-Some.multiple c.loop-signal-test.true c.signal-item.is period is c.loop-signal.invariant.rest;
+          period_more c.args.network.now c.args.signals.now c.loop-signal.signal-index c.signal-item.result
+          c.loop-signal.hyper _ c.in-Some.multiple c.loop-signal-test.true c.signal-item.is period is
+          c.loop-signal.invariant.rest;
     }

@@ -6,8 +6,13 @@ use Rattle.pack_model.proofs.problem.problem_of.Goals as goal
 pub returns-then-len-gt-MAX_ITEMS : goal.returns-then-len-gt-MAX_ITEMS
 returns-then-len-gt-MAX_ITEMS c =
     let is : IsAdmitted c.args.signals.items =
-    admitted c.args.signals.items c.as_slice.result.now c.as_slice-2.result.now c.as_slice-4.result.now c.in_ok-items.items.items c.as_slice-5.result.now (vec_len c.args.signals) c.is_empty.result c.large_pdu.result (omega arith) c.is_empty.ensures c.if-is_empty.false (omega arith) c.as_slice.ensures.value c.in_ok-names.ensures.names.1
-    c.as_slice-2.ensures.value c.in_ok-places.ensures.places.1 c.in_ok-items.ensures c.as_slice-4.ensures.value c.as_slice-5.ensures.value c.large_pdu.ensures c.in_default.is in
+    admitted c.args.signals.items c.as_slice.result.now c.as_slice-2.result.now c.as_slice-4.result.now
+    c.in_ok-items.items.items c.as_slice-5.result.now
+    (vec_len c.args.signals) c.is_empty.result c.large_pdu.result
+    (omega arith) c.is_empty.ensures c.if-is_empty.false
+    (omega arith) c.as_slice.ensures.value c.in_ok-names.ensures.names.1
+    c.as_slice-2.ensures.value c.in_ok-places.ensures.places.1 c.in_ok-items.ensures
+    c.as_slice-4.ensures.value c.as_slice-5.ensures.value c.large_pdu.ensures c.in_default.is in
     let items : c.in_ok-items.items.items ≡ items_in_order c.args.signals.items = c.in_ok-items.ensures
     ∙ ap items_in_order c.as_slice-4.ensures.value in
     let many : 128 < length (items_in_order c.args.signals.items) = omega (arith, ap length items) in
@@ -16,8 +21,13 @@ returns-then-len-gt-MAX_ITEMS c =
 pub returns-in_default-common_period : goal.returns-in_default-common_period
 returns-in_default-common_period c =
     let is : IsAdmitted c.args.signals.items =
-    admitted c.args.signals.items c.as_slice.result.now c.as_slice-2.result.now c.as_slice-4.result.now c.in_ok-items.items.items c.as_slice-5.result.now (vec_len c.args.signals) c.is_empty.result c.large_pdu.result (omega arith) c.is_empty.ensures c.if-is_empty.false (omega arith) c.as_slice.ensures.value c.in_ok-names.ensures.names.1
-    c.as_slice-2.ensures.value c.in_ok-places.ensures.places.1 c.in_ok-items.ensures c.as_slice-4.ensures.value c.as_slice-5.ensures.value c.large_pdu.ensures c.in_default.is in
+    admitted c.args.signals.items c.as_slice.result.now c.as_slice-2.result.now c.as_slice-4.result.now
+    c.in_ok-items.items.items c.as_slice-5.result.now
+    (vec_len c.args.signals) c.is_empty.result c.large_pdu.result
+    (omega arith) c.is_empty.ensures c.if-is_empty.false
+    (omega arith) c.as_slice.ensures.value c.in_ok-names.ensures.names.1
+    c.as_slice-2.ensures.value c.in_ok-places.ensures.places.1 c.in_ok-items.ensures
+    c.as_slice-4.ensures.value c.as_slice-5.ensures.value c.large_pdu.ensures c.in_default.is in
     let items : c.in_ok-items.items.items ≡ items_in_order c.args.signals.items = c.in_ok-items.ensures
     ∙ ap items_in_order c.as_slice-4.ensures.value in
     let few : length (items_in_order c.args.signals.items) ≤ 128 = omega (arith, ap length items) in
@@ -29,13 +39,20 @@ returns-in_default-common_period c =
 pub invariant_of-result : goal.invariant_of-result
 invariant_of-result c =
     let is : IsAdmitted c.args.signals.items =
-    admitted c.args.signals.items c.as_slice.result.now c.as_slice-2.result.now c.as_slice-4.result.now c.in_ok-items.items.items c.as_slice-5.result.now (vec_len c.args.signals) c.is_empty.result c.large_pdu.result (omega arith) c.is_empty.ensures c.if-is_empty.false (omega arith) c.as_slice.ensures.value c.in_ok-names.ensures.names.1
-    c.as_slice-2.ensures.value c.in_ok-places.ensures.places.1 c.in_ok-items.ensures c.as_slice-4.ensures.value c.as_slice-5.ensures.value c.large_pdu.ensures c.in_default.is in
+    admitted c.args.signals.items c.as_slice.result.now c.as_slice-2.result.now c.as_slice-4.result.now
+    c.in_ok-items.items.items c.as_slice-5.result.now
+    (vec_len c.args.signals) c.is_empty.result c.large_pdu.result
+    (omega arith) c.is_empty.ensures c.if-is_empty.false
+    (omega arith) c.as_slice.ensures.value c.in_ok-names.ensures.names.1
+    c.as_slice-2.ensures.value c.in_ok-places.ensures.places.1 c.in_ok-items.ensures
+    c.as_slice-4.ensures.value c.as_slice-5.ensures.value c.large_pdu.ensures c.in_default.is in
     let items : c.in_ok-items.items.items ≡ items_in_order c.args.signals.items = c.in_ok-items.ensures
     ∙ ap items_in_order c.as_slice-4.ensures.value in
     let few : length (items_in_order c.args.signals.items) ≤ 128 = omega (arith, ap length items) in
     let sorted : c.sort_by_sender.new.items.items ≡ items_of c.args.signals.items =
-    sorted_items c.args.signals.items c.as_slice-4.result.now c.in_ok-items.items.items c.sort_by_sender.new.items.items c.in_ok-items.ensures c.as_slice-4.ensures.value c.in_ok-sort_by_sender.ensures.order in
+    sorted_items c.args.signals.items c.as_slice-4.result.now c.in_ok-items.items.items
+    c.sort_by_sender.new.items.items c.in_ok-items.ensures c.as_slice-4.ensures.value
+    c.in_ok-sort_by_sender.ensures.order in
     let senders : c.in_ok-senders.senders.keys ≡ senders_of c.args.signals.items = c.in_ok-senders.ensures
     ∙ ap senders_of c.as_slice-3.ensures.value in
     let hyper : c.in-Some-common_period.hyper ≡ hyper_of c.args.network c.args.signals.items =
@@ -57,13 +74,20 @@ invariant_of-result c =
 pub returns : goal.returns
 returns c =
     let is : IsAdmitted c.args.signals.items =
-    admitted c.args.signals.items c.as_slice.result.now c.as_slice-2.result.now c.as_slice-4.result.now c.in_ok-items.items.items c.as_slice-5.result.now (vec_len c.args.signals) c.is_empty.result c.large_pdu.result (omega arith) c.is_empty.ensures c.if-is_empty.false (omega arith) c.as_slice.ensures.value c.in_ok-names.ensures.names.1
-    c.as_slice-2.ensures.value c.in_ok-places.ensures.places.1 c.in_ok-items.ensures c.as_slice-4.ensures.value c.as_slice-5.ensures.value c.large_pdu.ensures c.in_default.is in
+    admitted c.args.signals.items c.as_slice.result.now c.as_slice-2.result.now c.as_slice-4.result.now
+    c.in_ok-items.items.items c.as_slice-5.result.now
+    (vec_len c.args.signals) c.is_empty.result c.large_pdu.result
+    (omega arith) c.is_empty.ensures c.if-is_empty.false
+    (omega arith) c.as_slice.ensures.value c.in_ok-names.ensures.names.1
+    c.as_slice-2.ensures.value c.in_ok-places.ensures.places.1 c.in_ok-items.ensures
+    c.as_slice-4.ensures.value c.as_slice-5.ensures.value c.large_pdu.ensures c.in_default.is in
     let items : c.in_ok-items.items.items ≡ items_in_order c.args.signals.items = c.in_ok-items.ensures
     ∙ ap items_in_order c.as_slice-4.ensures.value in
     let few : length (items_in_order c.args.signals.items) ≤ 128 = omega (arith, ap length items) in
     let sorted : c.sort_by_sender.new.items.items ≡ items_of c.args.signals.items =
-    sorted_items c.args.signals.items c.as_slice-4.result.now c.in_ok-items.items.items c.sort_by_sender.new.items.items c.in_ok-items.ensures c.as_slice-4.ensures.value c.in_ok-sort_by_sender.ensures.order in
+    sorted_items c.args.signals.items c.as_slice-4.result.now c.in_ok-items.items.items
+    c.sort_by_sender.new.items.items c.in_ok-items.ensures c.as_slice-4.ensures.value
+    c.in_ok-sort_by_sender.ensures.order in
     let senders : c.in_ok-senders.senders.keys ≡ senders_of c.args.signals.items = c.in_ok-senders.ensures
     ∙ ap senders_of c.as_slice-3.ensures.value in
     let hyper : c.in-Some-common_period.hyper ≡ hyper_of c.args.network c.args.signals.items =
