@@ -32,10 +32,12 @@ distinct_from_test (x ∷ xs) it =
     let apart : All (λ y. nat_eq x y ≡ false) xs =
     All-weaker (λ y. not (nat_eq x y) ≡ true) (λ y. nat_eq x y ≡ false) (λ y. not-true (nat_eq x y)) xs
     (AllPass-from_list_all (λ y. not (nat_eq x y)) xs parts.0) in
-    IsDistinct-cons nat_eq x xs (recursion_from_All (λ y. nat_eq x y ≡ false) xs apart) (distinct_from_test xs parts.1)
+    IsDistinct-cons nat_eq x xs (recursion_from_All (λ y. nat_eq x y ≡ false) xs apart)
+    (distinct_from_test xs parts.1)
 
 -- a stage that passes the test is one
-pub stage_from_test : (frames : List Timed) (order : List ℕ) (place : ℕ) → IsTrue (is_stage frames order place)
+pub stage_from_test : (frames : List Timed) (order : List ℕ) (place : ℕ)
+    → IsTrue (is_stage frames order place)
     → IsStage frames order place
 stage_from_test frames order place it =
     let few : Bool = nat_le (length frames) 128 in
@@ -49,8 +51,12 @@ stage_from_test frames order place it =
     let few_parts = and_parts few in_range named_parts.0 in
     record {
       few = leb-true (length frames) 128 few_parts.0;
-      in_range = All-weaker (λ frame. is_in_range frame ≡ true) IsInRange in_range_from_test frames (AllPass-from_list_all is_in_range frames few_parts.1);
-      named = All-weaker (λ number. nat_lt number (length frames) ≡ true) (λ number. number < length frames) (λ number. ltb-true number (length frames)) order
+      in_range =
+          All-weaker (λ frame. is_in_range frame ≡ true) IsInRange in_range_from_test frames
+          (AllPass-from_list_all is_in_range frames few_parts.1);
+      named =
+          All-weaker (λ number. nat_lt number (length frames) ≡ true) (λ number. number < length frames)
+          (λ number. ltb-true number (length frames)) order
           (AllPass-from_list_all (λ number. nat_lt number (length frames)) order named_parts.1);
       distinct = distinct_from_test order distinct_parts.1;
       inside = ltb-true place (length order) inside_parts.1;

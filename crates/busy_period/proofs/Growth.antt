@@ -29,21 +29,29 @@ pub instances-harder : (frame harder : Timed) (time : ℕ) → IsHarder frame ha
 instances-harder frame harder time it =
     let later : div_ceil (time + frame.jitter) frame.period ≤ div_ceil (time + harder.jitter) frame.period =
     div_ceil-le (time + frame.jitter) (time + harder.jitter) frame.period (omega (arith, it.jitter)) in
-    omega (arith, div_ceil-ge_divisor (time + harder.jitter) frame.period harder.period it.some_period it.period)
+    omega (
+      arith,
+      div_ceil-ge_divisor
+          (time + harder.jitter) frame.period harder.period it.some_period it.period,
+    )
 
 -- a harder frame asks for no less
-pub asks-harder : (frame harder : Timed) (time : ℕ) → IsHarder frame harder → asks_of frame time ≤ asks_of harder time
+pub asks-harder : (frame harder : Timed) (time : ℕ) → IsHarder frame harder
+    → asks_of frame time ≤ asks_of harder time
 asks-harder frame harder time it = mul-le-mul (instances-harder frame harder time it) it.ticks
 
 -- within some time a frame asks for one sending at least
-pub one_instance_at_least : (frame : Timed) (time : ℕ) → 1 ≤ frame.period → 1 ≤ time → frame.ticks ≤ asks_of frame time
+pub one_instance_at_least : (frame : Timed) (time : ℕ) → 1 ≤ frame.period → 1 ≤ time
+    → frame.ticks ≤ asks_of frame time
 one_instance_at_least frame time some later =
-    let up : time + frame.jitter ≤ instances_of frame time * frame.period = (div_ceil_times (time + frame.jitter) frame.period some).0 in
+    let up : time + frame.jitter ≤ instances_of frame time * frame.period =
+    (div_ceil_times (time + frame.jitter) frame.period some).0 in
     let at_least_one : 1 ≤ instances_of frame time = elim (cases_lt 0 (instances_of frame time)) [
       | inl some' ↦ some'
       | inr none ↦ absurd (omega (arith, mul-le-mul_right frame.period none))
     ] in
-    let times : 1 * frame.ticks ≤ instances_of frame time * frame.ticks = mul-le-mul_right frame.ticks at_least_one in
+    let times : 1 * frame.ticks ≤ instances_of frame time * frame.ticks =
+    mul-le-mul_right frame.ticks at_least_one in
     omega arith
 
 -- blocking is at least the ticks of each of the frames
@@ -54,56 +62,70 @@ ticks-le-blocking frames (first ∷ rest) number in' =
     elim (Contains-append_cases (first ∷ []) rest number in') [
       | inl here ↦
           let same : first ≡ number = one first number here in
-          let P : ℕ → Type 0 = λ n. (frame_at frames n).ticks ≤ max (frame_at frames first).ticks (blocking_of frames rest) in
+          let P : ℕ → Type 0 =
+          λ n. (frame_at frames n).ticks ≤ max (frame_at frames first).ticks (blocking_of frames rest) in
           subst P same (omega arith)
       | inr later ↦ omega (arith, ticks-le-blocking frames rest number later)
     ]
 
 -- and it is the ticks of one of them, or 0
 pub blocking_is_of_one : (frames : List Timed) (numbers : List ℕ)
-    → (blocking_of frames numbers ≡ 0) ⊎ ((number : ℕ) × Contains numbers number × (blocking_of frames numbers ≡ (frame_at frames number).ticks))
+    → (blocking_of frames numbers ≡ 0)
+    ⊎ ((number : ℕ) × Contains numbers number
+    × (blocking_of frames numbers ≡ (frame_at frames number).ticks))
 blocking_is_of_one frames [] = inl refl
 blocking_is_of_one frames (first ∷ rest) =
     elim (cases_lt (frame_at frames first).ticks (blocking_of frames rest)) [
       | inr first_is_most ↦ inr (first, (0, omega arith, refl), omega arith)
       | inl rest_is_more ↦ elim (blocking_is_of_one frames rest) [
         | inl none ↦ absurd (omega arith)
-        | inr found ↦ inr (found.0, Contains-append_right (first ∷ []) rest found.0 found.1, omega (arith, found.2))
+        | inr found ↦ inr (
+          found.0,
+          Contains-append_right (first ∷ []) rest found.0 found.1,
+          omega (arith, found.2),
+        )
       ]
     ]
 
--- blocking and the work of higher frames never fall together as they grow: a frame that moves up takes at most its ticks
--- from the blocking, and adds one sending at least
-pub claims-grow : (frames : List Timed) (higher lower : List ℕ) (frames' : List Timed) (higher' lower' : List ℕ) (time : ℕ)
+-- blocking and the work of higher frames never fall together as they grow: a frame that moves up takes at
+-- most its ticks from the blocking, and adds one sending at least
+pub claims-grow : (frames : List Timed) (higher lower : List ℕ) (frames' : List Timed)
+    (higher' lower' : List ℕ) (time : ℕ)
     → 1 ≤ time → Grows frames higher lower frames' higher' lower'
-    → blocking_of frames lower + work_of frames higher time ≤ blocking_of frames' lower' + work_of frames' higher' time
+    → blocking_of frames lower + work_of frames higher time
+    ≤ blocking_of frames' lower' + work_of frames' higher' time
 claims-grow frames higher lower frames' higher' lower' time some it =
     let asks : ℕ → ℕ = λ number. asks_of (frame_at frames number) time in
     let asks' : ℕ → ℕ = λ number. asks_of (frame_at frames' number) time in
     let work : sum_by asks higher ≤ sum_by asks' higher' =
     sum_within asks asks' higher higher' it.distinct it.stay_higher
-    (λ number in'. asks-harder (frame_at frames number) (frame_at frames' number) time (it.higher_harder number in')) in
+    (λ number in'. asks-harder (frame_at frames number) (frame_at frames' number) time
+    (it.higher_harder number in')) in
     elim (blocking_is_of_one frames lower) [
       | inl none ↦ omega arith
       | inr (number, in', is) ↦
-          let harder : IsHarder (frame_at frames number) (frame_at frames' number) = it.lower_harder number in' in
+          let harder : IsHarder (frame_at frames number) (frame_at frames' number) =
+          it.lower_harder number in' in
           elim (it.stay_or_move_up number in') [
             | inl stays ↦ omega (arith, ticks-le-blocking frames' lower' number stays, harder.ticks)
             | inr moves ↦
                 let more : sum_by asks (number ∷ higher) ≤ sum_by asks' higher' =
-                sum_within asks asks' (number ∷ higher) higher' (IsDistinct-absent number higher it.distinct moves.0)
+                sum_within asks asks' (number ∷ higher) higher'
+                (IsDistinct-absent number higher it.distinct moves.0)
                 (λ z in''. elim (Contains-append_cases (number ∷ []) higher z in'') [
                   | inl here ↦ subst (Contains higher') (one number z here) moves.1
                   | inr there ↦ it.stay_higher z there
                 ])
-                (λ z in''. asks-harder (frame_at frames z) (frame_at frames' z) time (elim (Contains-append_cases (number ∷ []) higher z in'') [
+                (λ z in''. asks-harder (frame_at frames z) (frame_at frames' z) time
+                (elim (Contains-append_cases (number ∷ []) higher z in'') [
                   | inl here ↦
                       let P : ℕ → Type 0 = λ n. IsHarder (frame_at frames n) (frame_at frames' n) in
                       subst P (one number z here) harder
                   | inr there ↦ it.higher_harder z there
                 ])) in
                 let sent : (frame_at frames number).ticks ≤ asks number =
-                one_instance_at_least (frame_at frames number) time (omega (arith, harder.some_period, harder.period)) some in
+                one_instance_at_least (frame_at frames number) time
+                (omega (arith, harder.some_period, harder.period)) some in
                 omega (arith, sum_by-cons asks number higher)
           ]
     ]

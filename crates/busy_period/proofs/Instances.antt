@@ -27,7 +27,8 @@ div_ceil-le_self a y some =
     omega arith
 
 -- what a frame asks for never falls in time
-pub asks-le : (frame : Timed) (earlier later : ℕ) → earlier ≤ later → asks_of frame earlier ≤ asks_of frame later
+pub asks-le : (frame : Timed) (earlier later : ℕ) → earlier ≤ later
+    → asks_of frame earlier ≤ asks_of frame later
 asks-le frame earlier later le = mul-le-mul_right frame.ticks (div_ceil-le _ _ frame.period (omega arith))
 
 -- what a frame in range asks for within 2^46 ticks

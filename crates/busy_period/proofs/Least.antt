@@ -50,12 +50,18 @@ last_below P decided (suc n) =
     elim (decided n) [
       | inl here ↦ inl (n, omega arith, here, λ m above below _. omega (arith, above, below))
       | inr not_here ↦
-          let at_end : (m : ℕ) → (m < n → ¬ P m) → m < suc n → ¬ P m = λ m before below it. elim (cases_lt m n) [
+          let at_end : (m : ℕ) → (m < n → ¬ P m) → m < suc n → ¬ P m =
+          λ m before below it. elim (cases_lt m n) [
             | inl below' ↦ before below' it
             | inr above ↦ not_here (let same : m ≡ n = omega arith in subst P same it)
           ] in
           elim (last_below P decided n) [
-            | inl found ↦ inl (found.0, omega (arith, found.1), found.2, λ m above. at_end m (found.3 m above))
+            | inl found ↦ inl (
+              found.0,
+              omega (arith, found.1),
+              found.2,
+              λ m above. at_end m (found.3 m above),
+            )
             | inr none ↦ inr (λ m. at_end m (none m))
           ]
     ]

@@ -19,9 +19,12 @@ use Rattle.busy_period.proofs.Sums.{sum_by-same_set}
 pub order_is_few : (frames : List Timed) (order : List ℕ) (place : ℕ) → IsStage frames order place
     → length order ≤ 128
 order_is_few frames order place stage =
-    let below : (number : ℕ) → list_any (nat_eq number) order ≡ true → number < length frames = λ number found.
-    All-contains (λ i. i < length frames) order number stage.named (Contains-from_any (λ a b. eqb-true a b) number order found) in
-    let few : length order ≤ length frames = length-le_from_distinct_below order (length frames) stage.distinct below in
+    let below : (number : ℕ) → list_any (nat_eq number) order ≡ true → number < length frames =
+    λ number found.
+    All-contains (λ i. i < length frames) order number stage.named
+    (Contains-from_any (λ a b. eqb-true a b) number order found) in
+    let few : length order ≤ length frames =
+    length-le_from_distinct_below order (length frames) stage.distinct below in
     let frames_few : length frames ≤ 128 = stage.few in
     omega arith
 
@@ -30,7 +33,8 @@ pub named_is_in_range : (frames : List Timed) (numbers : List ℕ) (index : ℕ)
     → index < length numbers
     → IsInRange (frame_at frames (get_or numbers index 0))
 named_is_in_range frames numbers index named inside =
-    All-get_or IsInRange frames (get_or numbers index 0) none_frame (All-get_or (λ i. i < length frames) numbers index 0 inside named.named) named.in_range
+    All-get_or IsInRange frames (get_or numbers index 0) none_frame
+    (All-get_or (λ i. i < length frames) numbers index 0 inside named.named) named.in_range
 
 -- and so is the frame under test
 pub own_is_in_range : (frames : List Timed) (order : List ℕ) (place : ℕ) → IsStage frames order place
@@ -62,12 +66,15 @@ back_is_named frames order place n stage =
 -- work never falls in time
 pub work-le : (frames : List Timed) (numbers : List ℕ) (earlier later : ℕ) → earlier ≤ later
     → work_of frames numbers earlier ≤ work_of frames numbers later
-work-le frames numbers earlier later le = sum_by-le-sum_by _ _ numbers (λ i. asks-le (frame_at frames i) earlier later le)
+work-le frames numbers earlier later le =
+    sum_by-le-sum_by _ _ numbers (λ i. asks-le (frame_at frames i) earlier later le)
 
 -- the work of a frame and of those above it
 pub work-own : (frames : List Timed) (order : List ℕ) (place time : ℕ) → place < length order
-    → work_of frames (take (place + 1) order) time ≡ work_of frames (higher_of order place) time + asks_of (own_of frames order place) time
-work-own frames order place time inside = sum_by_more (λ i. asks_of (frame_at frames i) time) order place 0 inside
+    → work_of frames (take (place + 1) order) time
+    ≡ work_of frames (higher_of order place) time + asks_of (own_of frames order place) time
+work-own frames order place time inside =
+    sum_by_more (λ i. asks_of (frame_at frames i) time) order place 0 inside
 
 -- the demand never falls in time
 pub demand-le : (frames : List Timed) (own : ℕ) (higher lower : List ℕ) (earlier later : ℕ) → earlier ≤ later
@@ -79,7 +86,8 @@ demand-le frames own higher lower earlier later le =
 pub work-same_set : (frames : List Timed) (numbers numbers' : List ℕ) (time : ℕ)
     → IsDistinct nat_eq numbers → IsDistinct nat_eq numbers' → IsSameSet numbers numbers'
     → work_of frames numbers time ≡ work_of frames numbers' time
-work-same_set frames numbers numbers' time = sum_by-same_set (λ i. asks_of (frame_at frames i) time) numbers numbers'
+work-same_set frames numbers numbers' time =
+    sum_by-same_set (λ i. asks_of (frame_at frames i) time) numbers numbers'
 
 -- the demand depends on the higher frames as a set, and on the lower ones by their greatest ticks
 pub demand-same_sets : (frames : List Timed) (own : ℕ) (higher lower higher' lower' : List ℕ)
@@ -99,26 +107,42 @@ fit-above frames numbers base ahead from earlier time fit le =
 -- what fits for a frame and those above it is a busy period of the frame
 pub busy_from_fit : (frames : List Timed) (order : List ℕ) (place blocked time : ℕ) → place < length order
     → IsFit frames (take (place + 1) order) blocked 0 1 time
-    → IsBusy (λ t. blocked + work_of frames (higher_of order place) t + asks_of (own_of frames order place) t) time
+    → IsBusy (λ t. blocked + work_of frames (higher_of order place) t + asks_of (own_of frames order place) t)
+    time
 busy_from_fit frames order place blocked time inside fit =
     record {
       some = fit.begun;
-      done = omega (arith, fit.done, work-own frames order place time inside, ap (work_of frames (take (place + 1) order)) (add-zero time));
+      done =
+          omega (
+            arith,
+            fit.done,
+            work-own frames order place time inside,
+            ap (work_of frames (take (place + 1) order)) (add-zero time),
+          );
     }
 
 pub fit_from_busy : (frames : List Timed) (order : List ℕ) (place blocked time : ℕ) → place < length order
-    → IsBusy (λ t. blocked + work_of frames (higher_of order place) t + asks_of (own_of frames order place) t) time
+    → IsBusy (λ t. blocked + work_of frames (higher_of order place) t + asks_of (own_of frames order place) t)
+    time
     → IsFit frames (take (place + 1) order) blocked 0 1 time
 fit_from_busy frames order place blocked time inside busy =
     record {
       begun = busy.some;
-      done = omega (arith, busy.done, work-own frames order place time inside, ap (work_of frames (take (place + 1) order)) (add-zero time));
+      done =
+          omega (
+            arith,
+            busy.done,
+            work-own frames order place time inside,
+            ap (work_of frames (take (place + 1) order)) (add-zero time),
+          );
     }
 
 -- and the least one the least
-pub least_busy_from_fit : (frames : List Timed) (order : List ℕ) (place blocked time : ℕ) → place < length order
+pub least_busy_from_fit : (frames : List Timed) (order : List ℕ) (place blocked time : ℕ)
+    → place < length order
     → IsLeast (IsFit frames (take (place + 1) order) blocked 0 1) time
-    → IsLeast (IsBusy (λ t. blocked + work_of frames (higher_of order place) t + asks_of (own_of frames order place) t)) time
+    → IsLeast (IsBusy (λ t. blocked + work_of frames (higher_of order place) t + asks_of
+    (own_of frames order place) t)) time
 least_busy_from_fit frames order place blocked time inside least =
     record {
       holds = busy_from_fit frames order place blocked time inside least.holds;
@@ -129,13 +153,16 @@ least_busy_from_fit frames order place blocked time inside least =
 pub busy_of_climb : (frames : List Timed) (order : List ℕ) (place limit : ℕ) (found : Option ℕ)
     → place < length order
     → limit + (own_of frames order place).jitter ≤ 256 * (own_of frames order place).period
-    → IfSome found (IsLeast (IsFit frames (take (place + 1) order) (blocking_of frames (lower_of order place)) 0 1))
+    → IfSome found (IsLeast (IsFit frames (take (place + 1) order)
+    (blocking_of frames (lower_of order place)) 0 1))
     → IfSome found (λ time. time ≤ limit)
     → IfSome found (LeastBusy (own_of frames order place) (demand_of frames order place))
 busy_of_climb frames order place limit None inside short least within = tt
 busy_of_climb frames order place limit (Some time) inside short least within =
     record {
-      busy = least_busy_from_fit frames order place (blocking_of frames (lower_of order place)) time inside least;
+      busy =
+          least_busy_from_fit frames order place
+          (blocking_of frames (lower_of order place)) time inside least;
       short = omega arith;
     }
 
@@ -143,8 +170,16 @@ busy_of_climb frames order place limit (Some time) inside short least within =
 pub none_of_climb : (frames : List Timed) (order : List ℕ) (place limit : ℕ) (found : Option ℕ)
     → place < length order
     → 256 * (own_of frames order place).period ≤ limit + (own_of frames order place).jitter
-    → IfNone found ((time : ℕ) → IsFit frames (take (place + 1) order) (blocking_of frames (lower_of order place)) 0 1 time → limit < time)
-    → IfNone found ((time : ℕ) → ¬ (IsShortBusy (own_of frames order place) (demand_of frames order place) time))
+    → IfNone found ((time : ℕ)
+    → IsFit frames (take (place + 1) order) (blocking_of frames (lower_of order place)) 0 1 time
+    → limit < time)
+    → IfNone found ((time : ℕ)
+    → ¬ (IsShortBusy (own_of frames order place) (demand_of frames order place) time))
 none_of_climb frames order place limit None inside long none =
-    λ time it. omega (arith, none time (fit_from_busy frames order place (blocking_of frames (lower_of order place)) time inside it.busy), it.short)
+    λ time it. omega (
+      arith,
+      none time
+          (fit_from_busy frames order place (blocking_of frames (lower_of order place)) time inside it.busy),
+      it.short,
+    )
 none_of_climb frames order place limit (Some time) inside long none = tt

@@ -4,7 +4,8 @@ use Rattle.busy_period.specs.Stage.{own_of}
 use Rattle.busy_period.specs.Demand.{work_of, demand_of}
 use Rattle.busy_period.specs.Least.{IsLeast}
 
--- from a least time on: base ticks and all that the frames ask for within the time and a little ahead fit into it
+-- from a least time on: base ticks and all that the frames ask for within the time and a little ahead fit
+-- into it
 pub record IsFit (frames : List Timed) (numbers : List ℕ) (base ahead from time : ℕ) : Type 0 where
   pub begun : from ≤ time
   pub done : base + work_of frames numbers (time + ahead) ≤ time

@@ -21,8 +21,8 @@ abbrev pub blocking_of : List Timed → List ℕ → ℕ
 blocking_of frames [] = 0
 blocking_of frames (number ∷ rest) = max (frame_at frames number).ticks (blocking_of frames rest)
 
--- the demand at the level of a frame within a time, against higher and lower ones: blocking by a lower one, and the work
--- of the higher ones and of its own
+-- the demand at the level of a frame within a time, against higher and lower ones: blocking by a lower one,
+-- and the work of the higher ones and of its own
 abbrev pub demand_against : List Timed → ℕ → List ℕ → List ℕ → ℕ → ℕ
 demand_against frames own higher lower time =
     blocking_of frames lower + work_of frames higher time + asks_of (frame_at frames own) time

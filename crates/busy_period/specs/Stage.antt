@@ -1,5 +1,6 @@
 use Rattle.std.specs.Prelude.{ℕ, ◌+◌, ◌<◌, ◌≤◌, List, length, All, Contains, nat_eq, slice_index, take, drop}
 use Rattle.std.specs.List.{IsDistinct}
+use Rattle.busy_period.specs.declared.timed.TheConstants.{MAX_FRAMES}
 use Rattle.busy_period.specs.declared.timed.Timed.{Timed}
 use Rattle.busy_period.specs.Timed.{IsInRange, frame_at}
 
@@ -7,11 +8,11 @@ use Rattle.busy_period.specs.Timed.{IsInRange, frame_at}
 pub record AreNamed (frames : List Timed) (numbers : List ℕ) : Type 0 where
   pub in_range : All IsInRange frames
   pub named : All (λ number. number < length frames) numbers
-  pub few : length numbers ≤ 128
+  pub few : length numbers ≤ MAX_FRAMES
 
 -- at most 128 frames, each in range; an order of different ones; a place in it
 pub record IsStage (frames : List Timed) (order : List ℕ) (place : ℕ) : Type 0 where
-  pub few : length frames ≤ 128
+  pub few : length frames ≤ MAX_FRAMES
   pub in_range : All IsInRange frames
   pub named : All (λ number. number < length frames) order
   pub distinct : IsDistinct nat_eq order

@@ -10,7 +10,8 @@ pub fn demand_never_falls()
         → demand_against frames own higher lower earlier ≤ demand_against frames own higher lower later }
 {}
 
-/// A law: the demand depends on the higher frames as a set, and on the lower ones by their greatest ticks alone.
+/// A law: the demand depends on the higher frames as a set, and on the lower ones by their greatest ticks
+/// alone.
 pub fn demand_depends_on_sets()
     ensures { (frames : List Timed) (own : ℕ) (higher lower higher' lower' : List ℕ)
         → IsDistinct nat_eq higher → IsDistinct nat_eq higher' → IsSameSet higher higher'

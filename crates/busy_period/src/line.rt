@@ -17,11 +17,12 @@ struct Line {
     slope: u128,
 }
 
-/// A line below the work of the frames of these numbers: each frame asks for its ticks in each of its periods, over the
-/// time and its jitter.
+/// A line below the work of the frames of these numbers: each frame asks for its ticks in each of its
+/// periods, over the time and its jitter.
 fn line_below(frames: &[Timed], numbers: &[u32]) -> Line
     requires { AreNamed frames.now numbers.now }
-    ensures below { (time : ℕ) → result.offset + result.slope * time ≤ PARTS * work_of frames.now numbers.now time }
+    ensures below { (time : ℕ)
+        → result.offset + result.slope * time ≤ PARTS * work_of frames.now numbers.now time }
     ensures offset { result.offset ≤ 2 ^ 107 }
     ensures slope { result.slope ≤ 2 ^ 70 }
 {
@@ -36,8 +37,8 @@ fn line_below(frames: &[Timed], numbers: &[u32]) -> Line
     Line { offset, slope }
 }
 
-/// A time from `from` on that no fit is before; None only where none is up to `limit`. It is where the line below the work
-/// fits, which a whole bus never does.
+/// A time from `from` on that no fit is before; None only where none is up to `limit`. It is where the line
+/// below the work fits, which a whole bus never does.
 pub(crate) fn climb_start(
     frames: &[Timed],
     numbers: &[u32],
@@ -48,9 +49,11 @@ pub(crate) fn climb_start(
 ) -> Option<u64>
     requires named { AreNamed frames.now numbers.now }
     requires ahead { ahead ≤ 2 ^ 45 }
-    ensures below { IfSome result (λ start. (time : ℕ) → IsFit frames.now numbers.now base ahead from time → start ≤ time) }
+    ensures below { IfSome result
+        (λ start. (time : ℕ) → IsFit frames.now numbers.now base ahead from time → start ≤ time) }
     ensures from { IfSome result (λ start. from ≤ start) }
-    ensures none { IfNone result ((time : ℕ) → IsFit frames.now numbers.now base ahead from time → limit < time) }
+    ensures none { IfNone result
+        ((time : ℕ) → IsFit frames.now numbers.now base ahead from time → limit < time) }
 {
     let line = line_below(frames, numbers);
     let parts = u128::from(PARTS);

@@ -10,9 +10,9 @@ use crate::timed::Timed;
 /// The most instances of a frame in a busy period that counts.
 pub const MAX_INSTANCES: u64 = 256;
 
-/// The least time from `from` to `limit` into which `base` ticks and all that the frames ask for within the time and
-/// `ahead` ticks more fit; None exactly where there is none up to `limit`. It climbs from below, from a start that what the frames
-/// ask for on the average gives.
+/// The least time from `from` to `limit` into which `base` ticks and all that the frames ask for within the
+/// time and `ahead` ticks more fit; None exactly where there is none up to `limit`. It climbs from below,
+/// from a start that what the frames ask for on the average gives.
 pub fn least_fit(
     frames: &[Timed],
     numbers: &[u32],
@@ -26,7 +26,8 @@ pub fn least_fit(
     requires limit { limit ≤ 2 ^ 45 }
     ensures least { IfSome result (IsLeast (IsFit frames.now numbers.now base ahead from)) }
     ensures within { IfSome result (λ time. time ≤ limit) }
-    ensures none { IfNone result ((time : ℕ) → IsFit frames.now numbers.now base ahead from time → limit < time) }
+    ensures none { IfNone result
+        ((time : ℕ) → IsFit frames.now numbers.now base ahead from time → limit < time) }
 {
     let mut time = climb_start(frames, numbers, base, ahead, from, limit)?;
     while time <= limit {
@@ -42,8 +43,8 @@ pub fn least_fit(
     None
 }
 
-/// The least busy period of the frame at `place`: the least time of at least one tick after which all that was asked
-/// for within it is done. None exactly where there is none within 256 instances.
+/// The least busy period of the frame at `place`: the least time of at least one tick after which all that
+/// was asked for within it is done. None exactly where there is none within 256 instances.
 pub fn least_busy(frames: &[Timed], order: &[u32], place: usize) -> Option<u64>
     requires { IsStage frames.now order.now place }
     ensures least { IfSome result (FrameLeastBusy frames.now order.now place) }

@@ -1,3 +1,6 @@
+/// The most frames of a stage.
+pub const MAX_FRAMES: usize = 128;
+
 /// A frame's times, in ticks.
 #[derive(Clone, Copy, Debug, PartialEq, Eq)]
 pub struct Timed {
@@ -16,8 +19,8 @@ impl Timed {
     ghost use Rattle.busy_period.specs.Timed.{IsInRange};
     ghost use Rattle.busy_period.specs.Demand.{instances_of};
 
-    /// The most instances of the frame that are queued within `time` ticks: those that arrive within the time and the
-    /// jitter before it. `time` is at most 2^46.
+    /// The most instances of the frame that are queued within `time` ticks: those that arrive within the time
+    /// and the jitter before it. `time` is at most 2^46.
     pub fn instances(self, time: u64) -> u64
         requires range { IsInRange self }
         requires time { time ≤ 2 ^ 46 }

@@ -77,7 +77,8 @@ some_bytes NoHeader ne = absurd (ne refl)
 some_bytes Short ne = omega arith
 some_bytes Long ne = omega arith
 
-pub id_again : (kind : Header) (id count : ℕ) (rest : List ℕ) → id < id_limit kind → id_in kind (header_text kind id count ++ rest) ≡ id
+pub id_again : (kind : Header) (id count : ℕ) (rest : List ℕ) → id < id_limit kind
+    → id_in kind (header_text kind id count ++ rest) ≡ id
 id_again NoHeader id count rest lt = absurd (omega arith)
 id_again Short id count rest lt =
     let e = from_be_bytes-to_be_bytes_4 id (omega arith) in
@@ -85,14 +86,16 @@ id_again Short id count rest lt =
     omega (arith, e, top)
 id_again Long id count rest lt = from_be_bytes-to_be_bytes_4 id lt
 
-pub length_again : (kind : Header) (id count : ℕ) (rest : List ℕ) → count < length_limit kind → length_in kind (header_text kind id count ++ rest) ≡ count
+pub length_again : (kind : Header) (id count : ℕ) (rest : List ℕ) → count < length_limit kind
+    → length_in kind (header_text kind id count ++ rest) ≡ count
 length_again NoHeader id count rest lt = absurd (omega arith)
 length_again Short id count rest lt = refl
 length_again Long id count rest lt = from_be_bytes-to_be_bytes_4 count lt
 
 -- ---- what is read is written
 
-four_again : (bytes : List ℕ) → length bytes ≡ 4 → IsBytes bytes → to_be_bytes w32 (from_be_bytes w32 bytes) ≡ bytes
+four_again : (bytes : List ℕ) → length bytes ≡ 4 → IsBytes bytes
+    → to_be_bytes w32 (from_be_bytes w32 bytes) ≡ bytes
 four_again bytes len fits = be_bytes_4 bytes _ len fits refl
 
 take_two : (m n : ℕ) (bytes : List ℕ) → take m bytes ++ take n (drop m bytes) ≡ take (m + n) bytes
@@ -101,14 +104,22 @@ take_two m n bytes =
     let back : drop m (take (m + n) bytes) ≡ take n (drop m bytes) = drop-take m n bytes in
     rw (← front, ← back) (take-append-drop m (take (m + n) bytes))
 
-pub header_taken : (kind : Header) (bytes : List ℕ) → IsBytes bytes → header_bytes kind ≤ length bytes → header_text kind (id_in kind bytes) (length_in kind bytes) ≡ take (header_bytes kind) bytes
+pub header_taken : (kind : Header) (bytes : List ℕ) → IsBytes bytes → header_bytes kind ≤ length bytes
+    → header_text kind (id_in kind bytes) (length_in kind bytes) ≡ take (header_bytes kind) bytes
 header_taken NoHeader bytes fits long = refl
 header_taken Short bytes fits long =
     let len : length (take 3 bytes) ≡ 3 = length-take-le 3 bytes (omega arith) in
-    let e = four_again (0 ∷ take 3 bytes) (ap suc len) (IsBytes-zero (take 3 bytes) (IsBytes-take 3 bytes fits)) in
+    let e =
+    four_again (0 ∷ take 3 bytes) (ap suc len)
+    (IsBytes-zero (take 3 bytes) (IsBytes-take 3 bytes fits)) in
     ap (λ (t : List ℕ). drop 1 t ++ get_or bytes 3 0 ∷ []) e ∙ sym (take_more bytes 3 0 (omega arith))
 header_taken Long bytes fits long =
     let back = drop 4 bytes in
-    let first = four_again (take 4 bytes) (length-take-le 4 bytes (omega arith)) (IsBytes-take 4 bytes fits) in
-    let second = four_again (take 4 (drop 4 bytes)) (length-take-le 4 (drop 4 bytes) (omega (arith, length-drop 4 bytes))) (IsBytes-take 4 (drop 4 bytes) (IsBytes-drop 4 bytes fits)) in
-    ap (λ (t : List ℕ). t ++ to_be_bytes w32 (length_in Long bytes)) first ∙ ap (λ (t : List ℕ). take 4 bytes ++ t) second ∙ take_two 4 4 bytes
+    let first =
+    four_again (take 4 bytes) (length-take-le 4 bytes (omega arith)) (IsBytes-take 4 bytes fits) in
+    let second =
+    four_again (take 4 (drop 4 bytes))
+    (length-take-le 4 (drop 4 bytes) (omega (arith, length-drop 4 bytes)))
+    (IsBytes-take 4 (drop 4 bytes) (IsBytes-drop 4 bytes fits)) in
+    ap (λ (t : List ℕ). t ++ to_be_bytes w32 (length_in Long bytes)) first
+    ∙ ap (λ (t : List ℕ). take 4 bytes ++ t) second ∙ take_two 4 4 bytes

@@ -50,7 +50,8 @@ parts_text header parts = flat_map (part_text header) parts
 
 -- so many bytes: those of the parts, and zeros
 abbrev pub container_text : Header → List Part → ℕ → List ℕ
-container_text header parts size = parts_text header parts ++ replicate (size - length (parts_text header parts)) 0
+container_text header parts size =
+    parts_text header parts ++ replicate (size - length (parts_text header parts)) 0
 
 -- parts that a container of so many bytes can have
 pub record Fits (header : Header) (parts : List Part) (size : ℕ) : Type 0 where

@@ -29,7 +29,8 @@ has_id id parts = list_any (λ part. part.id == id) parts
 abbrev pub after_header : Header → List ℕ → List ℕ
 after_header header bytes = drop (header_bytes header) bytes
 
--- the part at the front of these bytes and the bytes after it, or why there is none; it stands at a place, after
+-- the part at the front of these bytes and the bytes after it, or why there is none; it stands at a place,
+-- after
 -- earlier parts
 abbrev pub part_at : Header → ℕ → List Part → List ℕ → Result (Part × List ℕ) ContainerFault
 part_at header at earlier bytes =
@@ -37,7 +38,13 @@ part_at header at earlier bytes =
     else (if id_in header bytes == 0 then Err (fault.ZeroId at)
     else (if nat_lt (length (after_header header bytes)) (length_in header bytes) then Err (fault.CutBody at)
     else (if has_id (id_in header bytes) earlier then Err (fault.TwiceId (id_in header bytes))
-    else Ok (record { id = id_in header bytes; bytes = take (length_in header bytes) (after_header header bytes) }, drop (length_in header bytes) (after_header header bytes)))))
+    else Ok (
+      record {
+        id = id_in header bytes;
+        bytes = take (length_in header bytes) (after_header header bytes);
+      },
+      drop (length_in header bytes) (after_header header bytes),
+    ))))
 
 infixl 10 ◌>>=◌
 -- one step of reading, and then the next
@@ -50,13 +57,15 @@ abbrev pub ◌>>=◌ : {A B : Type 0} → Result A ContainerFault → (A → Res
 abbrev pub is_zeros : List ℕ → Bool
 is_zeros bytes = list_all (λ byte. byte == 0) bytes
 
--- the earlier parts and those of the bytes that are left of so many in all, until only zeros are left; each part
+-- the earlier parts and those of the bytes that are left of so many in all, until only zeros are left; each
+-- part
 -- takes a byte at least, so that there are at most so many steps as bytes
 abbrev pub parts_after : Header → ℕ → ℕ → List Part → List ℕ → Result (List Part) ContainerFault
 parts_after kind total zero earlier bytes = Ok earlier
 parts_after kind total (suc steps) earlier bytes =
     if is_zeros bytes then Ok earlier
-    else (part_at kind (total - length bytes) earlier bytes >>= λ x. parts_after kind total steps (earlier ++ x.0 ∷ []) x.1)
+    else (part_at kind (total - length bytes) earlier bytes >>= λ x. parts_after kind total steps
+    (earlier ++ x.0 ∷ []) x.1)
 
 -- the parts of a container, or its first refusal
 abbrev pub parts_of : Header → List ℕ → Result (List Part) ContainerFault

@@ -17,20 +17,24 @@ pub record IsUnder (header : Header) (id count : ℕ) (body bytes : List ℕ) : 
 pub data IsWrong : Header → List Part → List ℕ → ContainerFault → Type 0 where
   -- there are fewer than a header is
   cut_header : {header : Header} {parts : List Part} {bytes : List ℕ} {at : ℕ}
-      → at ≡ length (parts_text header parts) → length bytes < header_bytes header → IsWrong header parts bytes (fault.CutHeader at)
+      → at ≡ length (parts_text header parts) → length bytes < header_bytes header
+      → IsWrong header parts bytes (fault.CutHeader at)
   -- the id is 0
   zero_id : {header : Header} {parts : List Part} {bytes body : List ℕ} {at count : ℕ}
-      → at ≡ length (parts_text header parts) → IsUnder header 0 count body bytes → IsWrong header parts bytes (fault.ZeroId at)
+      → at ≡ length (parts_text header parts) → IsUnder header 0 count body bytes
+      → IsWrong header parts bytes (fault.ZeroId at)
   -- fewer bytes than the length follow the header
   cut_body : {header : Header} {parts : List Part} {bytes body : List ℕ} {at id count : ℕ}
-      → at ≡ length (parts_text header parts) → IsUnder header id count body bytes → 1 ≤ id → length body < count
+      → at ≡ length (parts_text header parts) → IsUnder header id count body bytes → 1 ≤ id
+      → length body < count
       → IsWrong header parts bytes (fault.CutBody at)
   -- the id is that of one of the parts
   twice_id : {header : Header} {parts : List Part} {bytes body : List ℕ} {id count : ℕ}
       → IsUnder header id count body bytes → 1 ≤ id → count ≤ length body → Any (λ part. part.id ≡ id) parts
       → IsWrong header parts bytes (fault.TwiceId id)
 
--- the bytes begin with parts that a container can have, and behind them stand bytes that are not all zero and are
+-- the bytes begin with parts that a container can have, and behind them stand bytes that are not all zero and
+-- are
 -- wrong in this way
 pub record Refuses (header : Header) (bytes : List ℕ) (why : ContainerFault) : Type 0 where
   pub parts : List Part

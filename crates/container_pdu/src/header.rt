@@ -27,8 +27,8 @@ impl Header {
     }
 }
 
-/// The header of a frame with the PDUs of these ids: none for fewer than two, short where each id is below 2^24,
-/// else long.
+/// The header of a frame with the PDUs of these ids: none for fewer than two, short where each id is below
+/// 2^24, else long.
 pub fn header_kind(ids: &[u32]) -> Header
     ensures { result ≡ header_of ids.now }
 {

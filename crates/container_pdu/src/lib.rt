@@ -1,7 +1,7 @@
 //! Container PDUs with short and long headers, as AUTOSAR IpduM has them.
 //!
-//! The one contract that upper crates use is that [`read_container`] gives exactly the parts of the bytes, or the
-//! first fault, and that what [`write_container`] wrote is read back.
+//! The one contract that upper crates use is that [`read_container`] gives exactly the parts of the bytes, or
+//! the first fault, and that what [`write_container`] wrote is read back.
 #![tactic(auto)]
 
 mod fault;

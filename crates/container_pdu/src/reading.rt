@@ -92,8 +92,8 @@ pub fn read_container(
     header: Header,
 ) -> Result<Vec<Part>, ContainerFault>
     requires { header ≢ NoHeader }
-    // The bytes are those of the parts with their headers, and zeros; or what is wrong with them behind the parts at
-    // their front is the fault.
+    // The bytes are those of the parts with their headers, and zeros; or what is wrong with them behind the
+    // parts at their front is the fault.
     ensures found { IfOk result (λ v. IsContainer header v.items payload.now) }
     ensures refused { IfErr result (λ e. (e ≡ fault.Memory) ⊎ Refuses header payload.now e) }
     // Each container is read and each wrong one is refused, unless memory runs out.

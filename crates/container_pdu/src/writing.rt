@@ -37,8 +37,8 @@ fn put_part(out: &mut Vec<u8>, header: Header, part: &Part) -> Result<(), Memory
     Ok(())
 }
 
-/// The bytes of a container: the parts one after another, each under its header, and zeros up to `size` bytes, at
-/// most 64.
+/// The bytes of a container: the parts one after another, each under its header, and zeros up to `size`
+/// bytes, at most 64.
 pub fn write_container(
     alloc: Global,
     header: Header,

@@ -43,7 +43,8 @@ number_in low high k fields = or_error k (decimal_of low high (field_in k fields
 
 -- empty, or a decimal from low to high
 abbrev pub optional_in : ℕ → ℕ → ℕ → List (List ℕ) → Result (Option ℕ) ℕ
-optional_in low high k fields = if length (field_in k fields) == 0 then Ok None else number_in low high k fields >>= λ n. Ok (Some n)
+optional_in low high k fields =
+    if length (field_in k fields) == 0 then Ok None else number_in low high k fields >>= λ n. Ok (Some n)
 
 -- a record in row n, where a column that breaks its rule is this fault
 abbrev pub in_row : {A E : Type 0} → (ℕ → ℕ → E) → ℕ → Result A ℕ → Result A E
@@ -51,7 +52,8 @@ in_row bad n (Ok x) = Ok x
 in_row bad n (Err k) = Err (bad n k)
 
 -- what the records give, each by this reading, from row n on; the first row that fails is the fault
-abbrev pub rows_from : {A E : Type 0} → (ℕ → ℕ → E) → (List (List ℕ) → Result A ℕ) → ℕ → List (List (List ℕ)) → Result (List A) E
+abbrev pub rows_from : {A E : Type 0} → (ℕ → ℕ → E) → (List (List ℕ) → Result A ℕ) → ℕ → List (List (List ℕ))
+    → Result (List A) E
 rows_from bad read n [] = Ok []
 rows_from bad read n (row ∷ rows) = do
   x ← in_row bad n (read row)

@@ -9,9 +9,12 @@ value_after n (b ∷ rest) = value_after (n * 10 + (b - 48)) rest
 
 -- digits alone, at least one, and no leading zero other than `0` itself
 abbrev pub is_decimal : List ℕ → Bool
-is_decimal bytes = all_ascii_digits bytes && nat_le 1 (length bytes) && ((length bytes == 1) || not (slice_index bytes 0 == 48))
+is_decimal bytes =
+    all_ascii_digits bytes && nat_le 1
+    (length bytes) && ((length bytes == 1) || not (slice_index bytes 0 == 48))
 
 -- the number that the bytes spell, where they spell one from low to high
 abbrev pub decimal_of : ℕ → ℕ → List ℕ → Option ℕ
 decimal_of low high bytes =
-    if is_decimal bytes && nat_le low (value_after 0 bytes) && nat_le (value_after 0 bytes) high then Some (value_after 0 bytes) else None
+    if is_decimal bytes && nat_le low (value_after 0 bytes) && nat_le (value_after 0 bytes) high
+    then Some (value_after 0 bytes) else None

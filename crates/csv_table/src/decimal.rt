@@ -5,7 +5,8 @@ ghost use Rattle.csv_table.specs.Decimal.{decimal_of, value_after};
 
 // The number that digits alone spell, up to a limit.
 fn digits_up_to(bytes: &[u8], limit: u64) -> Option<u64>
-    ensures { result ≡ (if all_ascii_digits bytes.now && nat_le (value_after 0 bytes.now) limit then Some (value_after 0 bytes.now) else None) }
+    ensures { result ≡ (if all_ascii_digits bytes.now && nat_le (value_after 0 bytes.now) limit
+        then Some (value_after 0 bytes.now) else None) }
 {
     let limit = u128::from(limit);
     let mut value: u128 = 0;
@@ -30,8 +31,8 @@ fn read_decimal(bytes: &[u8], low: u64, high: u64) -> Option<u64>
     digits_up_to(bytes, high).filter(|value| low <= *value)
 }
 
-/// The number from `low` to `high` that the bytes spell in decimal: digits alone, and no leading zero other than `0`
-/// itself. None for all other bytes.
+/// The number from `low` to `high` that the bytes spell in decimal: digits alone, and no leading zero other
+/// than `0` itself. None for all other bytes.
 pub fn decimal_in(bytes: &[u8], low: u64, high: u64) -> Option<u64>
     ensures exact { result ≡ decimal_of low high bytes.now }
     // The bytes are the spelling of a number in the range.

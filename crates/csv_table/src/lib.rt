@@ -1,7 +1,8 @@
 //! What all readers and writers of CSV texts stand on: the records of a text, its header, columns in order,
 //! decimals, and the text of records.
 //!
-//! The one contract that upper crates use is that of [`Rows::next`]: it takes the first of the records that are left.
+//! The one contract that upper crates use is that of [`Rows::next`]: it takes the first of the records that
+//! are left.
 #![tactic(auto)]
 
 mod columns;

@@ -34,7 +34,8 @@ fn take(reader: &mut Reader<&[u8]>, row: &mut ByteRecord) -> Result<bool, Memory
     requires { IsOpen (λ s. Some s.now) reader.old }
     ensures open { IfOk result (λ found. found ≡ true → IsOpen (λ s. Some s.now) reader.new) }
     ensures takes { IfOk result (λ found.
-        Takes (rows_left (λ s. Some s.now) false reader.old) (rows_left (λ s. Some s.now) (not found) reader.new) found (fields_of row.new)) }
+        Takes (rows_left (λ s. Some s.now) false reader.old)
+        (rows_left (λ s. Some s.now) (not found) reader.new) found (fields_of row.new)) }
 {
     match reader.read_byte_record(row) {
         Ok(found) => Ok(found),

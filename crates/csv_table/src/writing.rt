@@ -26,7 +26,10 @@ impl Model for RowsWriter {
 
     ghost Value = { Written };
 
-    ghost view = { λ a. record { text = text_in (λ v. Some v.items) a.failed a.writer; row = fields_of a.row } };
+    ghost view = { λ a. record {
+      text = text_in (λ v. Some v.items) a.failed a.writer;
+      row = fields_of a.row;
+    } };
 
     ghost invariant = { λ a. a.failed ≡ false → IsFresh a.writer × (partial_of a.row ≡ []) };
 }
@@ -122,7 +125,8 @@ impl RowsWriter {
     /// Adds a whole record, where none is at hand.
     pub fn row(&mut self, fields: &[&[u8]]) -> Result<(), Memory>
         requires { self.old.row ≡ [] }
-        ensures text { OnOk result (self.new.text ≡ self.old.text ++ row_text default_writer (map (λ f. f.now) fields.now)) }
+        ensures text { OnOk result
+            (self.new.text ≡ self.old.text ++ row_text default_writer (map (λ f. f.now) fields.now)) }
         ensures row { OnOk result (self.new.row ≡ []) }
     {
         for field in fields {

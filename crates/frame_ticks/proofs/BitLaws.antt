@@ -12,12 +12,14 @@ unfolding number_bits
 number_bits-zero value = refl
 
 -- the most significant of some bits, and those below it
-pub number_bits-suc : (count value : ℕ) → number_bits (suc count) value ≡ (bit_at value count == 1) ∷ number_bits count value
+pub number_bits-suc : (count value : ℕ)
+    → number_bits (suc count) value ≡ (bit_at value count == 1) ∷ number_bits count value
 unfolding number_bits
 number_bits-suc count value = refl
 
 -- the same, counted down
-pub number_bits-down : (count value : ℕ) → 0 < count → number_bits count value ≡ (bit_at value (count - 1) == 1) ∷ number_bits (count - 1) value
+pub number_bits-down : (count value : ℕ) → 0 < count
+    → number_bits count value ≡ (bit_at value (count - 1) == 1) ∷ number_bits (count - 1) value
 number_bits-down zero value some = absurd (omega arith)
 number_bits-down (suc count) value some =
     let below : suc count - 1 ≡ count = omega arith in
@@ -26,18 +28,23 @@ number_bits-down (suc count) value some =
 -- there are as many bits as were asked for
 pub length-number_bits : (count value : ℕ) → length (number_bits count value) ≡ count
 length-number_bits zero value = ap length (number_bits-zero value)
-length-number_bits (suc count) value = ap length (number_bits-suc count value) ∙ ap suc (length-number_bits count value)
+length-number_bits (suc count) value = ap length (number_bits-suc count value)
+    ∙ ap suc (length-number_bits count value)
 
 -- the bits of one more byte
-pub payload_bits-more : (payload : List ℕ) (index : ℕ) → index < length payload → payload_bits (take (index + 1) payload) ≡ payload_bits (take index payload) ++ number_bits 8 (get_or payload index 0)
+pub payload_bits-more : (payload : List ℕ) (index : ℕ) → index < length payload
+    → payload_bits (take (index + 1) payload) ≡ payload_bits (take index payload)
+    ++ number_bits 8 (get_or payload index 0)
 payload_bits-more payload index within =
-    ap payload_bits (take_more payload index 0 within) ∙ sym (flat_map_more (λ byte. number_bits 8 byte) [] (take index payload) (get_or payload index 0))
+    ap payload_bits (take_more payload index 0 within)
+    ∙ sym (flat_map_more (λ byte. number_bits 8 byte) [] (take index payload) (get_or payload index 0))
 
 -- eight bits for each byte
 pub length-payload_bits : (payload : List ℕ) → length (payload_bits payload) ≡ 8 * length payload
 length-payload_bits [] = refl
 length-payload_bits (byte ∷ payload) =
-    length-append (number_bits 8 byte) (payload_bits payload) ∙ (let first = length-number_bits 8 byte in let rest = length-payload_bits payload in omega arith)
+    length-append (number_bits 8 byte) (payload_bits payload)
+    ∙ (let first = length-number_bits 8 byte in let rest = length-payload_bits payload in omega arith)
 
 -- 14 bits up to IDE
 pub length-arbitration_bits : (id : ℕ) → length (arbitration_bits id) ≡ 14
@@ -54,7 +61,8 @@ length-nominal_bits_of id =
     omega arith
 
 -- five more bits, and eight for each byte
-pub length-data_bits_of : (esi : Bool) (payload : List ℕ) → length (data_bits_of esi payload) ≡ 5 + 8 * length payload
+pub length-data_bits_of : (esi : Bool) (payload : List ℕ)
+    → length (data_bits_of esi payload) ≡ 5 + 8 * length payload
 length-data_bits_of esi payload =
     let all = length-append (length_bits (length payload)) (payload_bits payload) in
     let four = length-number_bits 4 (code_of_size (length payload)) in
@@ -62,7 +70,8 @@ length-data_bits_of esi payload =
     omega arith
 
 -- 22 bits and eight for each byte
-pub length-bits_of : (id : ℕ) (esi : Bool) (payload : List ℕ) → length (bits_of id esi payload) ≡ 22 + 8 * length payload
+pub length-bits_of : (id : ℕ) (esi : Bool) (payload : List ℕ)
+    → length (bits_of id esi payload) ≡ 22 + 8 * length payload
 length-bits_of id esi payload =
     let all = length-append (nominal_bits_of id) (data_bits_of esi payload) in
     let first = length-nominal_bits_of id in
@@ -70,18 +79,25 @@ length-bits_of id esi payload =
     omega arith
 
 -- the number of bits tells the number of bytes
-pub size_of_bits-bits_of : (id : ℕ) (esi : Bool) (payload : List ℕ) → size_of_bits (bits_of id esi payload) ≡ length payload
+pub size_of_bits-bits_of : (id : ℕ) (esi : Bool) (payload : List ℕ)
+    → size_of_bits (bits_of id esi payload) ≡ length payload
 size_of_bits-bits_of id esi payload =
     let all = length-bits_of id esi payload in omega arith
 
 -- the bits up to BRS are the first ones
-pub to_brs-bits_of : (id : ℕ) (esi : Bool) (payload : List ℕ) → to_brs (bits_of id esi payload) ≡ nominal_bits_of id
-to_brs-bits_of id esi payload = take_at (nominal_bits_of id) (data_bits_of esi payload) 17 (length-nominal_bits_of id)
+pub to_brs-bits_of : (id : ℕ) (esi : Bool) (payload : List ℕ)
+    → to_brs (bits_of id esi payload) ≡ nominal_bits_of id
+to_brs-bits_of id esi payload =
+    take_at (nominal_bits_of id) (data_bits_of esi payload) 17 (length-nominal_bits_of id)
 
 -- and the others are those after it
-pub after_brs-bits_of : (id : ℕ) (esi : Bool) (payload : List ℕ) → after_brs (bits_of id esi payload) ≡ data_bits_of esi payload
-after_brs-bits_of id esi payload = drop_at (nominal_bits_of id) (data_bits_of esi payload) 17 (length-nominal_bits_of id)
+pub after_brs-bits_of : (id : ℕ) (esi : Bool) (payload : List ℕ)
+    → after_brs (bits_of id esi payload) ≡ data_bits_of esi payload
+after_brs-bits_of id esi payload =
+    drop_at (nominal_bits_of id) (data_bits_of esi payload) 17 (length-nominal_bits_of id)
 
 -- the bits up to BRS as they are written: SOF, the identifier, and five fixed ones
-pub nominal_bits_of-written : (id : ℕ) → (false ∷ []) ++ number_bits 11 id ++ (false ∷ false ∷ true ∷ false ∷ true ∷ []) ≡ nominal_bits_of id
-nominal_bits_of-written id = ap (λ bits. false ∷ bits) (sym (append_assoc (number_bits 11 id) (false ∷ false ∷ []) format_bits))
+pub nominal_bits_of-written : (id : ℕ)
+    → (false ∷ []) ++ number_bits 11 id ++ (false ∷ false ∷ true ∷ false ∷ true ∷ []) ≡ nominal_bits_of id
+nominal_bits_of-written id =
+    ap (λ bits. false ∷ bits) (sym (append_assoc (number_bits 11 id) (false ∷ false ∷ []) format_bits))

@@ -2,6 +2,7 @@
 -- as ISO 11898-1 has them, without stuff bits.
 use Rattle.std.specs.Prelude.{◌≡◌, ℕ, zero, suc, ◌<◌, ◌==◌, Bool, true, false, List, [], ◌∷◌, ◌++◌, length, flat_map}
 use Rattle.std.specs.Int.{bit_at}
+use Rattle.frame_ticks.specs.declared.bits.TheConstants.{IDENTIFIERS}
 use Rattle.fd_length.specs.Size.{IsSize, code_of_size}
 
 -- the lowest bits of a number, so many of them, the most significant first
@@ -42,6 +43,6 @@ pub record IsFrame (bits : List Bool) : Type 0 where
   pub id : ℕ
   pub esi : Bool
   pub payload : List ℕ
-  pub id_high : id < 2048
+  pub id_high : id < IDENTIFIERS
   pub listed : IsSize (length payload)
   pub same : bits ≡ bits_of id esi payload

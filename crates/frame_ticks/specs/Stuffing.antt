@@ -10,9 +10,11 @@ run_with run value bit = if beq bit value then run + 1 else 1
 -- after a run of so many bits equal to `value`, the bits are sent as `out`
 pub data Stuffed : ℕ → Bool → List Bool → List Bool → Type 0 where
   -- after five equal bits comes an opposite one, which begins the next run
-  inserts : {run : ℕ} {value : Bool} {bits more : List Bool} → run ≡ 5 → Stuffed 1 (not value) bits more → Stuffed run value bits (not value ∷ more)
+  inserts : {run : ℕ} {value : Bool} {bits more : List Bool} → run ≡ 5 → Stuffed 1 (not value) bits more
+      → Stuffed run value bits (not value ∷ more)
   -- else the next bit is sent, which carries the run on or begins one
-  sends : {run : ℕ} {value bit : Bool} {rest more : List Bool} → run < 5 → Stuffed (run_with run value bit) bit rest more → Stuffed run value (bit ∷ rest) (bit ∷ more)
+  sends : {run : ℕ} {value bit : Bool} {rest more : List Bool} → run < 5
+      → Stuffed (run_with run value bit) bit rest more → Stuffed run value (bit ∷ rest) (bit ∷ more)
   -- and at the end there is no more
   ends : {run : ℕ} {value : Bool} → run < 5 → Stuffed run value [] []
 

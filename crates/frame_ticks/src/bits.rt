@@ -11,6 +11,9 @@ use std::alloc::Global;
 /// RRS, IDE, FDF, res and BRS of a base frame that switches its bit rate.
 pub const CONTROL_BITS: [bool; 5] = [false, false, true, false, true];
 
+/// How many identifiers base frames have: they are below this number.
+pub const IDENTIFIERS: usize = 2048;
+
 /// How many bits an identifier has.
 pub const ID_BITS: u32 = 11;
 
@@ -20,7 +23,7 @@ pub const DLC_BITS: u32 = 4;
 /// The bits of a frame with this identifier, error state indicator and payload, from the start of
 /// frame to the last data bit, true for recessive, without inserted ones.
 pub fn frame_bits(alloc: Global, id: u32, esi: bool, payload: &[u8]) -> Result<Vec<bool>, Memory>
-    requires id_high { id < 2048 }
+    requires id_high { id < IDENTIFIERS }
     requires listed { IsSize (length payload.now) }
     ensures bits { IfOk result (λ bits. bits.items ≡ bits_of id esi payload.now) }
     ensures frame { IfOk result (λ bits. IsFrame bits.items) }

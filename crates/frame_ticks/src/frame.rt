@@ -5,7 +5,7 @@ ghost use Rattle.frame_ticks.specs.Bits.{IsFrame, bits_of};
 ghost use Rattle.frame_ticks.specs.Ticks.{Lasts, size_of_bits, ticks_of, ticks_sent};
 ghost use Rattle.frame_ticks.specs.Worst.{worst_ticks_of};
 
-use crate::bits::{CONTROL_BITS, DLC_BITS, ID_BITS};
+use crate::bits::{CONTROL_BITS, DLC_BITS, ID_BITS, IDENTIFIERS};
 use crate::line::Line;
 use crate::worst::crc_bits;
 use fd_length::dlc_of;
@@ -41,7 +41,7 @@ pub fn stuffed_ticks(network: &Network, bits: &[bool]) -> u64
 /// The length, in ticks, of the whole frame with this identifier, error state indicator and payload,
 /// inserted bits counted.
 pub fn real_ticks(network: &Network, id: u32, esi: bool, payload: &[u8]) -> u64
-    requires id_high { id < 2048 }
+    requires id_high { id < IDENTIFIERS }
     requires listed { IsSize (length payload.now) }
     ensures value { result ≡ ticks_of network.now (bits_of id esi payload.now) }
     ensures lasts { Lasts network.now (bits_of id esi payload.now) result }

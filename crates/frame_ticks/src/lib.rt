@@ -11,7 +11,7 @@ mod laws;
 mod line;
 mod worst;
 
-pub use bits::frame_bits;
+pub use bits::{IDENTIFIERS, frame_bits};
 pub use frame::{real_ticks, stuffed_ticks};
 pub use laws::stuffing_is_exact;
 pub use worst::{MAX_TICKS, worst_ticks};

@@ -39,34 +39,43 @@ module _ {X : Type 0} where
   none_before k a [] lt = refl
   none_before k a (x ∷ xs) lt =
       class_of-cons k a (range_with_len (a + 1) (length xs)) x xs
-      ∙ ap (λ b. cond b (x ∷ class_of k (range_with_len (a + 1) (length xs)) xs) (class_of k (range_with_len (a + 1) (length xs)) xs)) (ne_eqb a k (λ e. omega arith))
+      ∙ ap (λ b. cond b (x ∷ class_of k (range_with_len (a + 1) (length xs)) xs)
+      (class_of k (range_with_len (a + 1) (length xs)) xs)) (ne_eqb a k (λ e. omega arith))
       ∙ none_before k (a + 1) xs (omega arith)
 
   -- a class of elements one each is empty or has one element
-  alone : (P : X → Type 0) (k a : ℕ) (xs : List X) → All P xs → (class_of k (range_with_len a (length xs)) xs ≡ []) ⊎ ((x : X) × P x × (class_of k (range_with_len a (length xs)) xs ≡ x ∷ []))
+  alone : (P : X → Type 0) (k a : ℕ) (xs : List X) → All P xs
+      → (class_of k (range_with_len a (length xs)) xs ≡ [])
+      ⊎ ((x : X) × P x × (class_of k (range_with_len a (length xs)) xs ≡ x ∷ []))
   alone P k a [] all = inl refl
   alone P k a (x ∷ xs) all = by (cases_eq a k) (alone P k (a + 1) xs (All-tail P x xs all))
     where
-      by : (a ≡ k) ⊎ (a ≡ k → ⊥) → (class_of k (range_with_len (a + 1) (length xs)) xs ≡ []) ⊎ ((y : X) × P y × (class_of k (range_with_len (a + 1) (length xs)) xs ≡ y ∷ []))
-          → (class_of k (range_with_len a (length (x ∷ xs))) (x ∷ xs) ≡ []) ⊎ ((y : X) × P y × (class_of k (range_with_len a (length (x ∷ xs))) (x ∷ xs) ≡ y ∷ []))
+      by : (a ≡ k) ⊎ (a ≡ k → ⊥)
+          → (class_of k (range_with_len (a + 1) (length xs)) xs ≡ [])
+          ⊎ ((y : X) × P y × (class_of k (range_with_len (a + 1) (length xs)) xs ≡ y ∷ []))
+          → (class_of k (range_with_len a (length (x ∷ xs))) (x ∷ xs) ≡ [])
+          ⊎ ((y : X) × P y × (class_of k (range_with_len a (length (x ∷ xs))) (x ∷ xs) ≡ y ∷ []))
       by (inl e) rest =
           inr (
             x,
             All-head P x xs all,
             class_of-cons k a (range_with_len (a + 1) (length xs)) x xs
-                ∙ ap (λ b. cond b (x ∷ class_of k (range_with_len (a + 1) (length xs)) xs) (class_of k (range_with_len (a + 1) (length xs)) xs)) (eq-eqb a k e)
+                ∙ ap (λ b. cond b (x ∷ class_of k (range_with_len (a + 1) (length xs)) xs)
+                (class_of k (range_with_len (a + 1) (length xs)) xs)) (eq-eqb a k e)
                 ∙ ap (λ ys. x ∷ ys) (none_before k (a + 1) xs (omega arith)),
           )
       by (inr ne) (inl none) =
           inl (class_of-cons k a (range_with_len (a + 1) (length xs)) x xs
-          ∙ ap (λ b. cond b (x ∷ class_of k (range_with_len (a + 1) (length xs)) xs) (class_of k (range_with_len (a + 1) (length xs)) xs)) (ne_eqb a k ne)
+          ∙ ap (λ b. cond b (x ∷ class_of k (range_with_len (a + 1) (length xs)) xs)
+          (class_of k (range_with_len (a + 1) (length xs)) xs)) (ne_eqb a k ne)
           ∙ none)
       by (inr ne) (inr (y, holds, one)) =
           inr (
             y,
             holds,
             class_of-cons k a (range_with_len (a + 1) (length xs)) x xs
-                ∙ ap (λ b. cond b (x ∷ class_of k (range_with_len (a + 1) (length xs)) xs) (class_of k (range_with_len (a + 1) (length xs)) xs)) (ne_eqb a k ne)
+                ∙ ap (λ b. cond b (x ∷ class_of k (range_with_len (a + 1) (length xs)) xs)
+                (class_of k (range_with_len (a + 1) (length xs)) xs)) (ne_eqb a k ne)
                 ∙ one,
           )
 
@@ -74,12 +83,21 @@ module _ {X : Type 0} where
 one_item_bytes : (item : Item) → item.bits ≤ 512 → bytes_of_items (item ∷ []) ≤ 64
 one_item_bytes item few = by item.pdu
   where
-    by : (o : Option ℕ) → (if is_some o || false then bytes_of_parts (cons_option o []) (bytes_of_item item ∷ []) else div_ceil (sum_by (λ (y : Item). y.bits) (item ∷ [])) 8) ≤ 64
-    by None = omega (arith, sum_by-cons (λ (y : Item). y.bits) item [], div_ceil_times (sum_by (λ (y : Item). y.bits) (item ∷ [])) 8 (omega arith))
-    by (Some id) = omega (arith, sum_by-cons (λ x. x) (bytes_of_item item) [], div_ceil_times item.bits 8 (omega arith))
+    by : (o : Option ℕ) → (if is_some o || false
+        then bytes_of_parts (cons_option o []) (bytes_of_item item ∷ [])
+        else div_ceil (sum_by (λ (y : Item). y.bits) (item ∷ [])) 8) ≤ 64
+    by None =
+        omega (
+          arith,
+          sum_by-cons (λ (y : Item). y.bits) item [],
+          div_ceil_times (sum_by (λ (y : Item). y.bits) (item ∷ [])) 8 (omega arith),
+        )
+    by (Some id) =
+        omega (arith, sum_by-cons (λ x. x) (bytes_of_item item) [], div_ceil_times item.bits 8 (omega arith))
 
 -- at most one item of at most 512 bits is a class that can become a frame
-small_class : (items : List Item) → (items ≡ []) ⊎ ((item : Item) × (item.bits ≤ 512) × (items ≡ item ∷ [])) → ClassStands items
+small_class : (items : List Item) → (items ≡ []) ⊎ ((item : Item) × (item.bits ≤ 512) × (items ≡ item ∷ []))
+    → ClassStands items
 small_class items (inl none) = subst ClassStands (sym none) (record {
   one_sender = λ i j d before lt. absurd (omega arith);
   one_kind = λ i j d before lt. absurd (omega arith);
@@ -92,15 +110,23 @@ small_class items (inr (item, few, one)) = subst ClassStands (sym one) (record {
 })
 
 -- the grouping is legal
-pub one_each_legal : (problem : Parts) → IsProblem problem → IsLegal problem.items (range_with_len 0 (length problem.items))
+pub one_each_legal : (problem : Parts) → IsProblem problem
+    → IsLegal problem.items (range_with_len 0 (length problem.items))
 one_each_legal problem stands = record {
   grouping = record {
     each = length-range_with_len 0 (length problem.items);
     by_first_use = λ k lt.
         let within : k < length problem.items = simp length-range_with_len at lt in
-        omega (arith, get_or-range_with_len 0 (length problem.items) k 0 within, ap classes_of (take-range 0 (length problem.items) k (omega arith)), classes_of-range k);
+        omega (
+          arith,
+          get_or-range_with_len 0 (length problem.items) k 0 within,
+          ap classes_of (take-range 0 (length problem.items) k (omega arith)),
+          classes_of-range k,
+        );
   };
-  classes = λ k. small_class (class_of k (range_with_len 0 (length problem.items)) problem.items) (alone (λ item. item.bits ≤ 512) k 0 problem.items (small_items problem stands));
+  classes =
+      λ k. small_class (class_of k (range_with_len 0 (length problem.items)) problem.items)
+      (alone (λ item. item.bits ≤ 512) k 0 problem.items (small_items problem stands));
 }
 
 -- and the order names each class once

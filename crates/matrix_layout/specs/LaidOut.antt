@@ -1,4 +1,6 @@
--- The communication matrix of a grouping: each class becomes one frame, by the order of the classes. In a container the I-PDUs follow each other under their headers, as AUTOSAR IpduM has them; signals stand one after another as AUTOSAR COM counts bits.
+-- The communication matrix of a grouping: each class becomes one frame, by the order of the classes. In a
+-- container the I-PDUs follow each other under their headers, as AUTOSAR IpduM has them; signals stand one
+-- after another as AUTOSAR COM counts bits.
 use Rattle.std.specs.Prelude.{ℕ, ◌+◌, ◌*◌, List, [], ◌∷◌, length, map, unwrap_or, slice_get}
 use Rattle.std.specs.List.{enumerate_from, filter_map, flat_map, range_with_len}
 use Rattle.pack_model.specs.declared.network.Network.{Network}
@@ -47,7 +49,8 @@ pub record FramePart : Type 0 where
 abbrev pub parts_from : Header → ℕ → List Item → List FramePart
 parts_from kind next [] = []
 parts_from kind next (item ∷ items) =
-    record { at = next + header_bytes kind; places = item.members } ∷ parts_from kind (next + header_bytes kind + bytes_of_item item) items
+    record { at = next + header_bytes kind; places = item.members } ∷ parts_from kind
+    (next + header_bytes kind + bytes_of_item item) items
 
 -- the parts of a frame by its header: one where it has none
 abbrev pub parts_with : Header → List Item → List FramePart
@@ -80,15 +83,20 @@ row_in_part frame at signals e = row_with frame at (8 * at + start_of (widths_of
 
 -- the rows of a part of a frame
 abbrev pub rows_of_part : FrameFigures → List Signal → FramePart → List MatrixRow
-rows_of_part frame signals part = map (row_in_part frame part.at (signals_at signals part.places)) (enumerate_from 0 (signals_at signals part.places))
+rows_of_part frame signals part =
+    map (row_in_part frame part.at (signals_at signals part.places))
+    (enumerate_from 0 (signals_at signals part.places))
 
 -- the rows of the frame of items with an identifier
 abbrev pub rows_of_items : Network → ℕ → List Signal → List Item → List MatrixRow
-rows_of_items network id signals items = flat_map (rows_of_part (figures_of network id items) signals) (parts_of_items items)
+rows_of_items network id signals items =
+    flat_map (rows_of_part (figures_of network id items) signals) (parts_of_items items)
 
 -- the rows of the class that the order names at a place
 abbrev pub rows_of_class : Parts → List ℕ → ℕ × ℕ → List MatrixRow
-rows_of_class problem labels e = rows_of_items problem.network (problem.network.first_id + e.0) problem.signals (class_of e.1 labels problem.items)
+rows_of_class problem labels e =
+    rows_of_items problem.network (problem.network.first_id + e.0) problem.signals
+    (class_of e.1 labels problem.items)
 
 -- the rows by identifier, then by item, and then by list place
 abbrev pub rows_of : Parts → List ℕ → List ℕ → List MatrixRow
@@ -96,4 +104,5 @@ rows_of problem labels order = flat_map (rows_of_class problem labels) (enumerat
 
 -- the rows of one frame for each item: the item of a number has the identifier so far above the first
 abbrev pub rows_one_each : Parts → List MatrixRow
-rows_one_each problem = rows_of problem (range_with_len 0 (length problem.items)) (range_with_len 0 (length problem.items))
+rows_one_each problem =
+    rows_of problem (range_with_len 0 (length problem.items)) (range_with_len 0 (length problem.items))

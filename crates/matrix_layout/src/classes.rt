@@ -14,7 +14,8 @@ pub fn items_by_class(
 ) -> Result<Vec<Vec<u32>>, Memory>
     requires few { length labels.now < 2 ^ 32 }
     requires below { All (λ label. label < classes) labels.now }
-    ensures { IfOk result (λ numbers. map (λ class. class.items) numbers.items ≡ map (numbers_of_class labels.now) (range_with_len 0 classes)) }
+    ensures { IfOk result (λ numbers. map (λ class. class.items) numbers.items
+        ≡ map (numbers_of_class labels.now) (range_with_len 0 classes)) }
 {
     let mut numbers = empty_classes(alloc, classes)?;
     for (number, &label) in labels.iter().enumerate() {

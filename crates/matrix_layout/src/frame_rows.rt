@@ -24,8 +24,11 @@ pub fn add_frame(
 ) -> Result<(), Memory>
     requires inside { All (λ number. number < length problem.now.items) numbers.now }
     requires class { ClassStands (items_at problem.now.items numbers.now) }
-    requires frame { figures frame.now ≡ figures_of problem.now.network frame.now.id (items_at problem.now.items numbers.now) }
-    ensures { OnOk result (rows.new.items ≡ rows.old.items ++ rows_of_items problem.now.network frame.now.id problem.now.signals (items_at problem.now.items numbers.now)) }
+    requires frame { figures frame.now
+        ≡ figures_of problem.now.network frame.now.id (items_at problem.now.items numbers.now) }
+    ensures { OnOk result (rows.new.items ≡ rows.old.items
+        ++ rows_of_items problem.now.network frame.now.id problem.now.signals
+        (items_at problem.now.items numbers.now)) }
 {
     match frame.header {
         Header::NoHeader => {
@@ -46,7 +49,9 @@ fn add_parts(
 ) -> Result<(), Memory>
     requires inside { All (λ number. number < length problem.now.items) numbers.now }
     requires room { bytes_with frame.now.header (items_at problem.now.items numbers.now) ≤ 64 }
-    ensures { OnOk result (rows.new.items ≡ rows.old.items ++ flat_map (rows_of_part (figures frame.now) problem.now.signals) (parts_from frame.now.header 0 (items_at problem.now.items numbers.now))) }
+    ensures { OnOk result (rows.new.items ≡ rows.old.items
+        ++ flat_map (rows_of_part (figures frame.now) problem.now.signals)
+        (parts_from frame.now.header 0 (items_at problem.now.items numbers.now))) }
 {
     let items = problem.items();
     let mut next = 0;
@@ -60,7 +65,8 @@ fn add_parts(
     Ok(())
 }
 
-/// Adds the rows of a part of a frame that begins at a byte: the signals at these list places, one after another.
+/// Adds the rows of a part of a frame that begins at a byte: the signals at these list places, one after
+/// another.
 fn add_part(
     alloc: Global,
     frame: &Frame,
@@ -72,7 +78,8 @@ fn add_part(
     requires signals { All SignalStands signals.now }
     requires inside { All (λ place. place < length signals.now) places.now }
     requires room { 8 * at + sum (widths_of (signals_at signals.now places.now)) ≤ 512 }
-    ensures { OnOk result (rows.new.items ≡ rows.old.items ++ rows_of_part (figures frame.now) signals.now (record { at = at; places = places.now })) }
+    ensures { OnOk result (rows.new.items ≡ rows.old.items
+        ++ rows_of_part (figures frame.now) signals.now (record { at = at; places = places.now })) }
 {
     let widths = widths_at(alloc, signals, places)?;
     let mut starts = vec![in alloc; 0; places.len()]?;

@@ -43,8 +43,10 @@ pub fn matrix_of(
 pub fn one_frame_each(alloc: Global, problem: &Problem) -> Result<Matrix, Memory>
     ensures rows { IfOk result (λ matrix. matrix ≡ rows_one_each problem.now) }
     ensures placed { IfOk result (λ matrix. Placed problem.now matrix) }
-    ensures grouping { IfOk result (λ matrix. grouping_of problem.now matrix ≡ range_with_len 0 (length problem.now.items)) }
-    ensures order { IfOk result (λ matrix. order_of problem.now matrix ≡ range_with_len 0 (length problem.now.items)) }
+    ensures grouping { IfOk result
+        (λ matrix. grouping_of problem.now matrix ≡ range_with_len 0 (length problem.now.items)) }
+    ensures order { IfOk result
+        (λ matrix. order_of problem.now matrix ≡ range_with_len 0 (length problem.now.items)) }
 {
     let numbers = numbers_below(alloc, problem.items().len() as u32)?;
     matrix_of(alloc, problem, numbers.as_slice(), numbers.as_slice())

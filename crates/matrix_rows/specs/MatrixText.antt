@@ -19,7 +19,8 @@ pub data MatrixRefusal : Type 0 where
 -- the header, which is row 1
 abbrev pub matrix_header : List (List ℕ)
 matrix_header =
-    codes "id" ∷ codes "sender" ∷ codes "size" ∷ codes "ticks" ∷ codes "header" ∷ codes "pdu" ∷ codes "at" ∷ codes "signal" ∷ codes "start" ∷ codes "bits" ∷ []
+    codes "id" ∷ codes "sender" ∷ codes "size" ∷ codes "ticks" ∷ codes "header"
+    ∷ codes "pdu" ∷ codes "at" ∷ codes "signal" ∷ codes "start" ∷ codes "bits" ∷ []
 
 -- a column with a data length of ISO 11898-1's list
 abbrev pub size_in : ℕ → List (List ℕ) → Result ℕ ℕ
@@ -67,7 +68,8 @@ row_of fields = do
 
 -- the rows under the header
 abbrev pub matrix_in : List (List (List ℕ)) → Result (List MatrixRow) MatrixRefusal
-matrix_in rows = if begins_with matrix_header rows then rows_from bad_row row_of 2 (drop 1 rows) else Err bad_header
+matrix_in rows =
+    if begins_with matrix_header rows then rows_from bad_row row_of 2 (drop 1 rows) else Err bad_header
 
 -- the matrix of a text, or its first refusal
 abbrev pub matrix_of_text : List ℕ → Result (List MatrixRow) MatrixRefusal

@@ -1,4 +1,5 @@
--- The ranges of a row's figures, as the text of a matrix has them. Data lengths are those of ISO 11898-1; the other limits are the project's own.
+-- The ranges of a row's figures, as the text of a matrix has them. Data lengths are those of ISO 11898-1; the
+-- other limits are the project's own.
 use Rattle.std.specs.Prelude.{◌≤◌}
 use Rattle.std.specs.Option.{ForSome}
 use Rattle.fd_length.specs.Size.{IsSize}

@@ -31,8 +31,8 @@ pub enum MatrixFault {
     /// The first record isn't the header.
     #[error("no header of a matrix")]
     BadHeader,
-    /// The first row that fails, counted from 1 for the header, and its least column that breaks its rule, counted
-    /// from 1, or 0 for the count of fields.
+    /// The first row that fails, counted from 1 for the header, and its least column that breaks its rule,
+    /// counted from 1, or 0 for the count of fields.
     #[error("column {column} of row {row} breaks its rule")]
     BadRow { row: u64, column: u8 },
     /// Memory ran out.

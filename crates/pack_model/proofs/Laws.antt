@@ -7,45 +7,76 @@ use Rattle.std.proofs.lemmas.List.Folds.{list_any_at}
 use Rattle.pack_model.specs.declared.problem.ProblemFault.{ProblemFault}
 use Rattle.pack_model.specs.declared.problem.ProblemFault.TheVariants.{NoSignals, TooManySignals, TooManyItems, TwiceNamed, PduSenders, PduTooLarge, PeriodsMixed}
 use Rattle.pack_model.specs.declared.item.Item.{Item}
+use Rattle.pack_model.proofs.ListLaws.{none_from}
 use Rattle.pack_model.specs.Problem.{Parts, IsProblem, parts_of, names_of, senders_of, sent_by, by_sender, items_of, items_in_order, hyper_of, is_too_large, first_repeat, first_clash, twice_named, pdu_senders, pdu_too_large}
 
 -- what is passed at an Ok
-passed : {A E : Type 0} (b : Bool) (e : E) (r : Result A E) (x : A) → (if b then Err e else r) ≡ Ok x → (b ≡ false) × (r ≡ Ok x)
+passed : {A E : Type 0} (b : Bool) (e : E) (r : Result A E) (x : A) → (if b then Err e else r) ≡ Ok x
+    → (b ≡ false) × (r ≡ Ok x)
 passed true e r x h = absurd (let wrong : Err e ≡ Ok x = h in cc)
 passed false e r x h = (refl, h)
 
-not_twice : (o : Option ℕ) (next : Result Parts ProblemFault) (p : Parts) → twice_named o next ≡ Ok p → (o ≡ None) × (next ≡ Ok p)
+not_twice : (o : Option ℕ) (next : Result Parts ProblemFault) (p : Parts) → twice_named o next ≡ Ok p
+    → (o ≡ None) × (next ≡ Ok p)
 not_twice None next p h = (refl, h)
 not_twice (Some place) next p h = absurd (let wrong : Err (TwiceNamed (place + 2)) ≡ Ok p = h in cc)
 
-no_clash : (o : Option ℕ) (next : Result Parts ProblemFault) (p : Parts) → pdu_senders o next ≡ Ok p → (o ≡ None) × (next ≡ Ok p)
+no_clash : (o : Option ℕ) (next : Result Parts ProblemFault) (p : Parts) → pdu_senders o next ≡ Ok p
+    → (o ≡ None) × (next ≡ Ok p)
 no_clash None next p h = (refl, h)
 no_clash (Some place) next p h = absurd (let wrong : Err (PduSenders (place + 2)) ≡ Ok p = h in cc)
 
-none_large : (o : Option Item) (next : Result Parts ProblemFault) (p : Parts) → pdu_too_large o next ≡ Ok p → (o ≡ None) × (next ≡ Ok p)
+none_large : (o : Option Item) (next : Result Parts ProblemFault) (p : Parts) → pdu_too_large o next ≡ Ok p
+    → (o ≡ None) × (next ≡ Ok p)
 none_large None next p h = (refl, h)
-none_large (Some item) next p h = absurd (let wrong : Err (PduTooLarge (unwrap_or item.pdu 0)) ≡ Ok p = h in cc)
+none_large (Some item) next p h =
+    absurd (let wrong : Err (PduTooLarge (unwrap_or item.pdu 0)) ≡ Ok p = h in cc)
 
 -- the items of later senders do not have an item of an earlier one
-not_sent : (n a : ℕ) (y : Item) (ys : List Item) → y.sender < a → flat_map (sent_by (y ∷ ys)) (range_with_len a n) ≡ flat_map (sent_by ys) (range_with_len a n)
+not_sent : (n a : ℕ) (y : Item) (ys : List Item) → y.sender < a
+    → flat_map (sent_by (y ∷ ys)) (range_with_len a n) ≡ flat_map (sent_by ys) (range_with_len a n)
 not_sent zero a y ys lt = refl
 not_sent (suc n) a y ys lt =
-    ap (λ b. cond b (y ∷ sent_by ys a) (sent_by ys a) ++ flat_map (sent_by (y ∷ ys)) (range_with_len (a + 1) n)) (ne_eqb y.sender a (omega arith))
+    ap (λ b. cond b (y ∷ sent_by ys a) (sent_by ys a)
+    ++ flat_map (sent_by (y ∷ ys)) (range_with_len (a + 1) n)) (ne_eqb y.sender a (omega arith))
     ∙ ap (λ l. sent_by ys a ++ l) (not_sent n (a + 1) y ys (omega arith))
 
 -- one item more makes at most one more of them
-one_sent : (n a : ℕ) (y : Item) (ys : List Item) → length (flat_map (sent_by (y ∷ ys)) (range_with_len a n)) ≤ 1 + length (flat_map (sent_by ys) (range_with_len a n))
+one_sent : (n a : ℕ) (y : Item) (ys : List Item)
+    → length (flat_map (sent_by (y ∷ ys)) (range_with_len a n))
+    ≤ 1 + length (flat_map (sent_by ys) (range_with_len a n))
 one_sent zero a y ys = omega arith
 one_sent (suc n) a y ys = by (cases_eq y.sender a) (one_sent n (a + 1) y ys)
   where
-    put : (b : Bool) → nat_eq y.sender a ≡ b → length (cond b (y ∷ sent_by ys a) (sent_by ys a) ++ flat_map (sent_by (y ∷ ys)) (range_with_len (a + 1) n)) ≤ 1 + length (sent_by ys a ++ flat_map (sent_by ys) (range_with_len (a + 1) n))
-        → length (flat_map (sent_by (y ∷ ys)) (range_with_len a (suc n))) ≤ 1 + length (flat_map (sent_by ys) (range_with_len a (suc n)))
+    put : (b : Bool) → nat_eq y.sender a ≡ b
+        → length (cond b (y ∷ sent_by ys a) (sent_by ys a)
+        ++ flat_map (sent_by (y ∷ ys)) (range_with_len (a + 1) n))
+        ≤ 1 + length (sent_by ys a ++ flat_map (sent_by ys) (range_with_len (a + 1) n))
+        → length (flat_map (sent_by (y ∷ ys)) (range_with_len a (suc n)))
+        ≤ 1 + length (flat_map (sent_by ys) (range_with_len a (suc n)))
     put b e h = rw e h
 
-    by : (y.sender ≡ a) ⊎ (y.sender ≢ a) → length (flat_map (sent_by (y ∷ ys)) (range_with_len (a + 1) n)) ≤ 1 + length (flat_map (sent_by ys) (range_with_len (a + 1) n))
-        → length (flat_map (sent_by (y ∷ ys)) (range_with_len a (suc n))) ≤ 1 + length (flat_map (sent_by ys) (range_with_len a (suc n)))
-    by (inl e) ih = put true (eq-eqb y.sender a e) (omega (arith, length-append (y ∷ sent_by ys a) (flat_map (sent_by (y ∷ ys)) (range_with_len (a + 1) n)), length-append (sent_by ys a) (flat_map (sent_by ys) (range_with_len (a + 1) n)), ap length (not_sent n (a + 1) y ys (omega arith))))
-    by (inr ne) ih = put false (ne_eqb y.sender a ne) (omega (arith, length-append (sent_by ys a) (flat_map (sent_by (y ∷ ys)) (range_with_len (a + 1) n)), length-append (sent_by ys a) (flat_map (sent_by ys) (range_with_len (a + 1) n))))
+    by : (y.sender ≡ a) ⊎ (y.sender ≢ a)
+        → length (flat_map (sent_by (y ∷ ys)) (range_with_len (a + 1) n))
+        ≤ 1 + length (flat_map (sent_by ys) (range_with_len (a + 1) n))
+        → length (flat_map (sent_by (y ∷ ys)) (range_with_len a (suc n)))
+        ≤ 1 + length (flat_map (sent_by ys) (range_with_len a (suc n)))
+    by (inl e) ih =
+        put true (eq-eqb y.sender a e)
+        (omega (
+          arith,
+          length-append (y ∷ sent_by ys a)
+              (flat_map (sent_by (y ∷ ys)) (range_with_len (a + 1) n)),
+          length-append (sent_by ys a) (flat_map (sent_by ys) (range_with_len (a + 1) n)),
+          ap length (not_sent n (a + 1) y ys (omega arith)),
+        ))
+    by (inr ne) ih =
+        put false (ne_eqb y.sender a ne)
+        (omega (
+          arith,
+          length-append (sent_by ys a) (flat_map (sent_by (y ∷ ys)) (range_with_len (a + 1) n)),
+          length-append (sent_by ys a) (flat_map (sent_by ys) (range_with_len (a + 1) n)),
+        ))
 
 none_sent : (n a : ℕ) → flat_map (sent_by []) (range_with_len a n) ≡ []
 none_sent zero a = refl
@@ -83,14 +114,20 @@ tests p stands =
     let not_empty = eqb-false (length p.signals) 0 a.0 in
     let items : p.items ≡ items_of p.signals = sym (ap (λ (q : Parts). q.items) same) in
     let hyper : p.hyper ≡ hyper_of p.network p.signals = sym (ap (λ (q : Parts). q.hyper) same) in
-    let few : length (items_in_order p.signals) ≤ 128 = ltb-false 128 (length (items_in_order p.signals)) f.0 in
+    let few : length (items_in_order p.signals) ≤ 128 =
+    ltb-false 128 (length (items_in_order p.signals)) f.0 in
     record {
       some = omega (arith, not_empty);
       few = ltb-false 2048 (length p.signals) b.0;
       different = c.0;
       one_sender = d.0;
       no_large = e.0;
-      few_items = omega (arith, ap length items, length-by_sender (length (senders_of p.signals)) (items_in_order p.signals));
+      few_items =
+          omega (
+            arith,
+            ap length items,
+            length-by_sender (length (senders_of p.signals)) (items_in_order p.signals),
+          );
       few_in_order = few;
       items = items;
       senders = sym (ap (λ (q : Parts). q.senders) same);
@@ -101,27 +138,29 @@ tests p stands =
     ok_same : (x y : Parts) → (let r : Result Parts ProblemFault = Ok x in r ≡ Ok y) → x ≡ y
     ok_same x y h = cc
 
-step : (b : Bool) (n : ℕ) (o : Option ℕ) → (if b then Some n else o) ≡ None → (b ≡ false) × (o ≡ None)
-step true n o h = absurd (let wrong : Some n ≡ None = h in cc)
-step false n o h = (refl, h)
-
 -- names in which no repeat is found differ from those before them
-differ : (earlier names : List (List ℕ)) (i : ℕ) (d : List ℕ) → first_repeat earlier names ≡ None → i < length names → list_any (bytes_eq (get_or names i d)) (earlier ++ take i names) ≡ false
+differ : (earlier names : List (List ℕ)) (i : ℕ) (d : List ℕ) → first_repeat earlier names ≡ None
+    → i < length names → list_any (bytes_eq (get_or names i d)) (earlier ++ take i names) ≡ false
 differ earlier [] i d h lt = absurd (omega arith)
-differ earlier (x ∷ xs) zero d h lt = ap (list_any (bytes_eq x)) (append-nil earlier) ∙ (step (list_any (bytes_eq x) earlier) _ _ h).0
+differ earlier (x ∷ xs) zero d h lt = ap (list_any (bytes_eq x)) (append-nil earlier)
+    ∙ (none_from (list_any (bytes_eq x) earlier) _ _ h).0
 differ earlier (x ∷ xs) (suc k) d h lt =
     ap (list_any (bytes_eq (get_or xs k d))) (sym (append_assoc earlier (x ∷ []) (take k xs)))
-    ∙ differ (earlier ++ x ∷ []) xs k d (step (list_any (bytes_eq x) earlier) _ _ h).1 (omega arith)
+    ∙ differ (earlier ++ x ∷ []) xs k d (none_from (list_any (bytes_eq x) earlier) _ _ h).1 (omega arith)
 
 -- the names of a problem's signals differ
-pub names_differ : (names : List (List ℕ)) → first_repeat [] names ≡ None → (i j : ℕ) (d : List ℕ) → i < j → j < length names → bytes_eq (get_or names j d) (get_or names i d) ≡ false
+pub names_differ : (names : List (List ℕ)) → first_repeat [] names ≡ None → (i j : ℕ) (d : List ℕ) → i < j
+    → j < length names → bytes_eq (get_or names j d) (get_or names i d) ≡ false
 names_differ names different i j d before within = by (bytes_eq (get_or names j d) (get_or names i d)) refl
   where
-    by : (b : Bool) → bytes_eq (get_or names j d) (get_or names i d) ≡ b → bytes_eq (get_or names j d) (get_or names i d) ≡ false
+    by : (b : Bool) → bytes_eq (get_or names j d) (get_or names i d) ≡ b
+        → bytes_eq (get_or names j d) (get_or names i d) ≡ false
     by false e = e
     by true e =
         let short : i < length (take j names) = simp length-take (omega arith) in
-        let found : list_any (bytes_eq (get_or names j d)) (take j names) ≡ true = list_any_at (bytes_eq (get_or names j d)) (take j names) i d short (ap (bytes_eq (get_or names j d)) (get_or-take j names i d before) ∙ e) in
+        let found : list_any (bytes_eq (get_or names j d)) (take j names) ≡ true =
+        list_any_at (bytes_eq (get_or names j d)) (take j names) i d short
+        (ap (bytes_eq (get_or names j d)) (get_or-take j names i d before) ∙ e) in
         absurd (true≢false (sym found ∙ differ [] names j d different within))
 
 pub element : {X : Type 0} (xs : List X) (i : ℕ) → i < length xs → (x : X) × (x ≡ get_or xs i x)

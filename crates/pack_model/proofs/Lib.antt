@@ -7,6 +7,7 @@ pub mod ItemFacts
 pub mod ItemSteps
 pub mod Keys
 pub mod Laws
+pub mod ListLaws
 pub mod Moves
 pub mod Multiples
 pub mod Numbering
@@ -16,3 +17,4 @@ pub mod PlaceSteps
 pub mod PlacedLaws
 pub mod ProblemItems
 pub mod ProblemSteps
+pub mod SameItem

@@ -6,6 +6,7 @@ use Rattle.pack_model.specs.declared.signal.Signal.{Signal}
 use Rattle.pack_model.specs.declared.item.Item.{Item}
 use Rattle.pack_model.specs.declared.items.Key.{Key}
 use Rattle.pack_model.specs.declared.items.Key.TheVariants.{Free, Pdu}
+use Rattle.pack_model.specs.declared.problem.TheConstants.{MAX_SIGNALS}
 use Rattle.pack_model.specs.declared.problem.ProblemFault.{ProblemFault}
 use Rattle.pack_model.specs.declared.problem.ProblemFault.TheVariants.{TwiceNamed, PduSenders}
 use Rattle.pack_model.specs.Problem.{placed, same_item, distinct}
@@ -46,7 +47,9 @@ put_at (suc number) place (xs ∷ xss) = xs ∷ put_at number place xss
 -- the item of the signals at some places, of which the first gives the sender and the I-PDU
 abbrev pub item_at : List Signal → List (List ℕ) → List ℕ → Item
 item_at signals senders places = record {
-  sender = position_or_len (bytes_eq (slice_index_or (map (λ s. s.sender) signals) (slice_index places 0) [])) senders;
+  sender =
+      position_or_len (bytes_eq
+      (slice_index_or (map (λ s. s.sender) signals) (slice_index places 0) [])) senders;
   pdu = slice_index_or (map (λ s. s.pdu) signals) (slice_index places 0) None;
   members = places;
   bits = sum_by (slice_index (map (λ s. s.bits) signals)) places;
@@ -55,5 +58,5 @@ item_at signals senders places = record {
 -- the places are some, at most 2048, and in the list
 pub record IsPlaces (signals : List Signal) (places : List ℕ) : Type 0 where
   pub some : 0 < length places
-  pub short : length places ≤ 2048
+  pub short : length places ≤ MAX_SIGNALS
   pub inside : All (λ place. place < length signals) places

@@ -1,4 +1,5 @@
--- The problem of a network and its signals. Items stand for AUTOSAR COM's I-PDUs with fixed layout; limits are the project's own.
+-- The problem of a network and its signals. Items stand for AUTOSAR COM's I-PDUs with fixed layout; limits
+-- are the project's own.
 use Rattle.std.specs.Prelude.{Bool, false, ℕ, ◌+◌, ◌*◌, ◌%◌, ◌&&◌, not, ◌==◌, nat_eq, nat_lt, List, [], ◌∷◌, ◌++◌, length, map, filter, find, sum_by, fold, is_some, unwrap_or, Option, None, Some, Result, Ok, Err, if◌then◌else◌, ◌≡◌, ◌≤◌, All, ⊤}
 use Rattle.std.specs.List.{list_any, enumerate_from, flat_map, range_with_len, position_or_len}
 use Rattle.std.specs.List.Sorted.{IsPermutation}
@@ -6,12 +7,15 @@ use Rattle.std.specs.Str.{bytes_eq}
 use Rattle.pack_model.specs.declared.network.Network.{Network}
 use Rattle.pack_model.specs.declared.signal.Signal.{Signal}
 use Rattle.pack_model.specs.declared.item.Item.{Item}
+use Rattle.pack_model.specs.declared.period.TheConstants.{MAX_HYPER}
+use Rattle.pack_model.specs.declared.problem.TheConstants.{MAX_SIGNALS, MAX_ITEMS}
 use Rattle.pack_model.specs.declared.problem.ProblemFault.{ProblemFault}
 use Rattle.pack_model.specs.declared.problem.ProblemFault.TheVariants.{NoSignals, TooManySignals, TwiceNamed, PduSenders, PduTooLarge, TooManyItems, PeriodsMixed, Memory}
 use Rattle.pack_model.specs.Network.{NetworkStands}
 use Rattle.pack_model.specs.Signal.{SignalStands, same_pdu}
 
--- what a problem says: its network, its signals in list order, its items in order, its senders in order, and the common period in ticks
+-- what a problem says: its network, its signals in list order, its items in order, its senders in order, and
+-- the common period in ticks
 pub record Parts : Type 0 where
   pub network : Network
   pub signals : List Signal
@@ -26,16 +30,19 @@ names_of signals = map (λ s. s.name) signals
 -- the first place whose name stands at an earlier place too; the names of `earlier` stand before the list
 abbrev pub first_repeat : List (List ℕ) → List (List ℕ) → Option ℕ
 first_repeat earlier [] = None
-first_repeat earlier (x ∷ xs) = if list_any (bytes_eq x) earlier then Some (length earlier) else first_repeat (earlier ++ x ∷ []) xs
+first_repeat earlier (x ∷ xs) =
+    if list_any (bytes_eq x) earlier then Some (length earlier) else first_repeat (earlier ++ x ∷ []) xs
 
 -- two signals of one I-PDU have different senders
 abbrev pub is_clash : Signal → Signal → Bool
 is_clash signal other = same_pdu signal.pdu other.pdu && not (bytes_eq signal.sender other.sender)
 
--- the first place whose signal is of an I-PDU that an earlier signal of another sender is of; the signals of `earlier` stand before the list
+-- the first place whose signal is of an I-PDU that an earlier signal of another sender is of; the signals of
+-- `earlier` stand before the list
 abbrev pub first_clash : List Signal → List Signal → Option ℕ
 first_clash earlier [] = None
-first_clash earlier (x ∷ xs) = if list_any (is_clash x) earlier then Some (length earlier) else first_clash (earlier ++ x ∷ []) xs
+first_clash earlier (x ∷ xs) =
+    if list_any (is_clash x) earlier then Some (length earlier) else first_clash (earlier ++ x ∷ []) xs
 
 -- the different elements of a list, each at its first place
 abbrev pub distinct : {X : Type 0} → (X → X → Bool) → List X → List X
@@ -50,7 +57,8 @@ senders_of signals = distinct bytes_eq (map (λ s. s.sender) signals)
 abbrev pub placed : List Signal → List (ℕ × Signal)
 placed signals = enumerate_from 0 signals
 
--- a signal of this I-PDU at this place and one of that at that place are of one item: one free signal, or one I-PDU
+-- a signal of this I-PDU at this place and one of that at that place are of one item: one free signal, or one
+-- I-PDU
 abbrev pub is_one_item : Option ℕ → ℕ → Option ℕ → ℕ → Bool
 is_one_item None place None other = nat_eq place other
 is_one_item (Some id) place (Some other_id) other = nat_eq id other_id
@@ -112,7 +120,15 @@ hyper_of network signals = fold lcm 1 (periods_of network signals)
 
 -- the parts of the problem of a network and signals
 abbrev pub parts_of : Network → List Signal → Parts
-parts_of network signals = record { network = network; signals = signals; items = items_of signals; senders = senders_of signals; hyper = hyper_of network signals }
+parts_of network signals =
+    record {
+      network = network;
+      signals = signals;
+      items = items_of signals;
+      senders =
+          senders_of signals;
+      hyper = hyper_of network signals;
+    }
 
 -- A row is the place in the list plus 2, since the header is row 1.
 abbrev pub twice_named : Option ℕ → Result Parts ProblemFault → Result Parts ProblemFault
@@ -132,12 +148,12 @@ pdu_too_large (Some item) next = Err (PduTooLarge (unwrap_or item.pdu 0))
 abbrev pub problem_of : Network → List Signal → Result Parts ProblemFault
 problem_of network signals =
     if length signals == 0 then Err NoSignals
-    else if nat_lt 2048 (length signals) then Err TooManySignals
+    else if nat_lt MAX_SIGNALS (length signals) then Err TooManySignals
     else twice_named (first_repeat [] (names_of signals))
     (pdu_senders (first_clash [] signals)
     (pdu_too_large (find is_too_large (items_in_order signals))
-    (if nat_lt 128 (length (items_in_order signals)) then Err TooManyItems
-    else if nat_lt 1000000000000000 (hyper_of network signals) then Err PeriodsMixed
+    (if nat_lt MAX_ITEMS (length (items_in_order signals)) then Err TooManyItems
+    else if nat_lt MAX_HYPER (hyper_of network signals) then Err PeriodsMixed
     else Ok (parts_of network signals))))
 
 -- the answer is what the definition says, want of memory aside

@@ -12,7 +12,7 @@ use crate::item::Item;
 use crate::lists::Labels;
 use crate::memory::Memory;
 use crate::name::Name;
-use crate::problem::ProblemFault;
+use crate::problem::{MAX_SIGNALS, ProblemFault};
 use crate::signal::Signal;
 use indexmap::IndexSet;
 use std::alloc::Global;
@@ -29,8 +29,10 @@ enum Key {
 /// The places of the signals of each item, by the list place of their first signal; or the first row
 /// whose I-PDU an earlier row of another sender has.
 pub fn places_by_item(alloc: Global, signals: &[Signal]) -> Result<Vec<Vec<u32>>, ProblemFault>
-    requires { length signals.now ≤ 2048 }
-    ensures places { IfOk result (λ places. (map (λ list. list.items) places.items ≡ places_by_item signals.now) × (first_clash [] signals.now ≡ None)) }
+    requires { length signals.now ≤ MAX_SIGNALS }
+    ensures places { IfOk result
+        (λ places. (map (λ list. list.items) places.items ≡ places_by_item signals.now)
+        × (first_clash [] signals.now ≡ None)) }
     ensures fault { IfErr result (λ e. (e ≡ memory) ⊎ IsClash (first_clash [] signals.now) e) }
 {
     let mut keys = IndexSet::new(alloc);
@@ -63,8 +65,10 @@ fn put_at(
     place: u32,
 ) -> Result<u32, Memory>
     requires { number ≤ vec_len lists.old }
-    ensures lists { OnOk result (map (λ list. list.items) lists.new.items ≡ put_at number place (map (λ list. list.items) lists.old.items)) }
-    ensures first { IfOk result (λ first. first ≡ slice_index_or (slice_index_or (map (λ list. list.items) lists.old.items) number []) 0 place) }
+    ensures lists { OnOk result (map (λ list. list.items) lists.new.items
+        ≡ put_at number place (map (λ list. list.items) lists.old.items)) }
+    ensures first { IfOk result (λ first. first
+        ≡ slice_index_or (slice_index_or (map (λ list. list.items) lists.old.items) number []) 0 place) }
 {
     if number == lists.len() {
         lists.push(Vec::new(alloc))?;
@@ -81,7 +85,7 @@ pub fn items_in_order(
     senders: &IndexSet<Name>,
     places: Vec<Vec<u32>>,
 ) -> Result<Vec<Item>, Memory>
-    requires few { length signals.now ≤ 2048 }
+    requires few { length signals.now ≤ MAX_SIGNALS }
     requires signals { All SignalStands signals.now }
     requires senders { senders.now.keys ≡ senders_of signals.now }
     requires places { map (λ list. list.items) places.items ≡ places_by_item signals.now }
@@ -96,7 +100,7 @@ pub fn items_in_order(
 
 /// The item of the signals at some places, of which the first gives the sender and the I-PDU.
 fn item_at(signals: &[Signal], senders: &IndexSet<Name>, places: Vec<u32>) -> Item
-    requires few { length signals.now ≤ 2048 }
+    requires few { length signals.now ≤ MAX_SIGNALS }
     requires signals { All SignalStands signals.now }
     requires senders { senders.now.keys ≡ senders_of signals.now }
     requires places { IsPlaces signals.now places.items }
@@ -114,7 +118,7 @@ fn item_at(signals: &[Signal], senders: &IndexSet<Name>, places: Vec<u32>) -> It
 /// The bits of the signals at some places together.
 fn bits_at(signals: &[Signal], places: &[u32]) -> u32
     requires signals { All SignalStands signals.now }
-    requires short { length places.now ≤ 2048 }
+    requires short { length places.now ≤ MAX_SIGNALS }
     requires inside { All (λ place. place < length signals.now) places.now }
     ensures { result ≡ sum_by (slice_index (map (λ s. s.bits) signals.now)) places.now }
 {
@@ -127,7 +131,7 @@ fn bits_at(signals: &[Signal], places: &[u32]) -> u32
 
 /// The number of a sender that is there.
 fn sender_number(senders: &IndexSet<Name>, sender: &Name) -> u32
-    requires few { length senders.now.keys ≤ 2048 }
+    requires few { length senders.now.keys ≤ MAX_SIGNALS }
     requires there { IsTrue (list_any (bytes_eq sender.now) senders.now.keys) }
     ensures { result ≡ position_or_len (bytes_eq sender.now) senders.now.keys }
 {
@@ -153,7 +157,8 @@ pub fn large_pdu(items: &[Item]) -> Option<u32>
 
 /// Puts the items in order of their senders' numbers; those of one sender stay in order.
 pub fn sort_by_sender(items: &mut Vec<Item>) -> Result<(), Memory>
-    ensures order { OnOk result ((senders : ℕ) → All (λ item. item.sender < senders) items.old.items → items.new.items ≡ by_sender senders items.old.items) }
+    ensures order { OnOk result ((senders : ℕ) → All (λ item. item.sender < senders) items.old.items
+        → items.new.items ≡ by_sender senders items.old.items) }
     ensures same { IsPermutation items.old.items items.new.items }
 {
     items.sort_by_key(|item| item.sender)?;

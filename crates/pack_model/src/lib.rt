@@ -20,5 +20,6 @@ pub use lists::{Chain, Labels, Payload, Values};
 pub use memory::Memory;
 pub use name::{Name, NameFault};
 pub use network::{Network, network_stands};
-pub use problem::{Problem, ProblemFault, problem_of};
+pub use period::MAX_HYPER;
+pub use problem::{MAX_ITEMS, MAX_SIGNALS, Problem, ProblemFault, problem_of};
 pub use signal::{Signal, Signals, signal_stands};

@@ -8,14 +8,15 @@ ghost use Rattle.pack_model.specs.Problem.{lcm, hyper_of};
 use crate::network::Network;
 use crate::signal::Signal;
 
-/// The longest common period in ticks.
-const LONGEST: u64 = 1_000_000_000_000_000;
+/// The longest common period of a problem, in ticks: 10^15.
+pub const MAX_HYPER: u64 = 1_000_000_000_000_000;
 
 /// The least common multiple of the signals' periods in ticks, or none where it is above 10^15.
 pub fn common_period(network: &Network, signals: &[Signal]) -> Option<u64>
     requires network { NetworkStands network.now }
     requires signals { All SignalStands signals.now }
-    ensures { MatchOption result (1000000000000000 < hyper_of network.now signals.now) (λ hyper. (hyper ≡ hyper_of network.now signals.now) × (hyper ≤ 1000000000000000)) }
+    ensures { MatchOption result (MAX_HYPER < hyper_of network.now signals.now)
+        (λ hyper. (hyper ≡ hyper_of network.now signals.now) × (hyper ≤ MAX_HYPER)) }
 {
     let mut hyper: u64 = 1;
     for signal in signals {
@@ -31,13 +32,14 @@ pub fn common_period(network: &Network, signals: &[Signal]) -> Option<u64>
 /// The least common multiple of two numbers, or none where it is above 10^15.
 fn common_multiple(a: u64, b: u64) -> Option<u64>
     requires a_low { 1 ≤ a }
-    requires a_high { a ≤ 1000000000000000 }
+    requires a_high { a ≤ MAX_HYPER }
     requires b_low { 1 ≤ b }
     requires b_high { b ≤ 100000000000 }
-    ensures { MatchOption result (1000000000000000 < lcm a b) (λ multiple. (multiple ≡ lcm a b) × (multiple ≤ 1000000000000000)) }
+    ensures { MatchOption result (MAX_HYPER < lcm a b)
+        (λ multiple. (multiple ≡ lcm a b) × (multiple ≤ MAX_HYPER)) }
 {
     let multiple = u128::from(a) * u128::from(b / common_divisor(a, b));
-    if multiple > u128::from(LONGEST) {
+    if multiple > u128::from(MAX_HYPER) {
         None
     } else {
         Some(multiple as u64)

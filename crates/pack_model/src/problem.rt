@@ -12,12 +12,18 @@ use crate::items::{items_in_order, large_pdu, places_by_item, sort_by_sender};
 use crate::memory::Memory;
 use crate::name::Name;
 use crate::network::Network;
-use crate::period::common_period;
+use crate::period::{MAX_HYPER, common_period};
 use crate::signal::Signal;
 use indexmap::IndexSet;
 use std::alloc::{AllocError, AllocFailed, Global};
 use std::marker::Model;
 use thiserror::Error;
+
+/// The most signals of a problem.
+pub const MAX_SIGNALS: usize = 2048;
+
+/// The most items of a problem.
+pub const MAX_ITEMS: usize = 128;
 
 /// Why a network and signals are no problem. A row is the place in the list plus 2, since a list's
 /// header is row 1.
@@ -89,12 +95,26 @@ impl Model for Problem {
 
     ghost Value = { Parts };
 
-    ghost view = { λ a. record { network = a.network; signals = a.signals.items; items = a.items.items; senders = a.senders.keys; hyper = a.hyper } };
+    ghost view = { λ a. record {
+      network = a.network;
+      signals = a.signals.items;
+      items = a.items.items;
+      senders = a.senders.keys;
+      hyper = a.hyper;
+    } };
 
     ghost use Rattle.std.specs.Prelude.{◌≡◌};
     ghost use Rattle.pack_model.specs.Problem.{names_of, IsProblem, IsSorted};
 
-    ghost invariant = { λ a. (a.names.keys ≡ names_of a.signals.items) × IsSorted a.signals.items a.items.items × IsProblem (record { network = a.network; signals = a.signals.items; items = a.items.items; senders = a.senders.keys; hyper = a.hyper }) };
+    ghost invariant = { λ a. (a.names.keys ≡ names_of a.signals.items)
+        × IsSorted a.signals.items a.items.items
+        × IsProblem (record {
+          network = a.network;
+          signals = a.signals.items;
+          items = a.items.items;
+          senders = a.senders.keys;
+          hyper = a.hyper;
+        }) };
 }
 
 impl Problem {
@@ -135,7 +155,7 @@ impl Problem {
     pub fn hyper(&self) -> u64
         ensures hyper { result ≡ self.now.hyper }
         ensures common { IsCommonPeriod (periods_of self.now.network self.now.signals) result }
-        ensures high { result ≤ 1000000000000000 }
+        ensures high { result ≤ MAX_HYPER }
         ensures problem { IsProblem self.now }
     {
         self.hyper
@@ -162,7 +182,7 @@ pub fn problem_of(
     if signals.is_empty() {
         return Err(ProblemFault::NoSignals);
     }
-    if signals.len() > 2048 {
+    if signals.len() > MAX_SIGNALS {
         return Err(ProblemFault::TooManySignals);
     }
     let names = numbered_names(alloc, signals.as_slice())?;
@@ -172,7 +192,7 @@ pub fn problem_of(
     if let Some(id) = large_pdu(items.as_slice()) {
         return Err(ProblemFault::PduTooLarge(id));
     }
-    if items.len() > 128 {
+    if items.len() > MAX_ITEMS {
         return Err(ProblemFault::TooManyItems);
     }
     let Some(hyper) = common_period(&network, signals.as_slice()) else {
@@ -191,8 +211,9 @@ pub fn problem_of(
 
 /// The names of the signals, each at its signal's place, or the first row that is named twice.
 fn numbered_names(alloc: Global, signals: &[Signal]) -> Result<IndexSet<Name>, ProblemFault>
-    requires { length signals.now ≤ 2048 }
-    ensures names { IfOk result (λ names. (names.keys ≡ names_of signals.now) × (first_repeat [] (names_of signals.now) ≡ None)) }
+    requires { length signals.now ≤ MAX_SIGNALS }
+    ensures names { IfOk result (λ names. (names.keys ≡ names_of signals.now)
+        × (first_repeat [] (names_of signals.now) ≡ None)) }
     ensures fault { IfErr result (λ e. (e ≡ memory) ⊎ IsRepeat (first_repeat [] (names_of signals.now)) e) }
 {
     let mut names = IndexSet::new(alloc);

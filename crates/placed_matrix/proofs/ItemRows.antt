@@ -22,7 +22,9 @@ module _ (signals : List Signal) (items : List Item) (sorted : IsSorted signals 
   pub item_at : (place : ℕ) → place < length signals → (item : Item) × ItemAt signals items place item
   item_at place lt =
       let (item, (n, n_in, n_at), (j, j_in, j_at)) = in_an_item signals items sorted place lt in
-      let pdus = subst (λ (i : Item). All (λ m. (d : Signal) → (get_or signals m d).pdu ≡ i.pdu) i.members) n_at (members_pdu signals items sorted n item n_in) in (
+      let pdus =
+      subst (λ (i : Item). All (λ m. (d : Signal) → (get_or signals m d).pdu ≡ i.pdu) i.members) n_at
+      (members_pdu signals items sorted n item n_in) in (
         item,
         record {
           number = n;
@@ -34,20 +36,28 @@ module _ (signals : List Signal) (items : List Item) (sorted : IsSorted signals 
       )
 
   -- the bytes of an I-PDU are those of its item
-  pub bytes_of_one : (number id : ℕ) (item : Item) → number < length items → item ≡ get_or items number item → item.pdu ≡ Some id → div_ceil item.bits 8 ≡ bytes_of_pdu signals id
+  pub bytes_of_one : (number id : ℕ) (item : Item) → number < length items → item ≡ get_or items number item
+      → item.pdu ≡ Some id → div_ceil item.bits 8 ≡ bytes_of_pdu signals id
   bytes_of_one number id item lt at is =
-      let bits = bits_of_pdu signals items sorted number item lt id (ap (λ (i : Item). i.pdu) (sym at) ∙ is) in
+      let bits =
+      bits_of_pdu signals items sorted number item lt id (ap (λ (i : Item). i.pdu) (sym at) ∙ is) in
       ap (λ n. div_ceil n 8) (ap (λ (i : Item). i.bits) at ∙ bits)
 
   -- an I-PDU that no item is has none
-  pub bytes_of_none : (id : ℕ) → ((k : ℕ) (d : Item) → k < length items → (get_or items k d).pdu ≡ Some id → ⊥) → 0 ≡ bytes_of_pdu signals id
-  bytes_of_none id none = sym (ap (λ l. div_ceil (sum_by (λ (s : Signal). s.bits) l) 8) (none_kept (λ (s : Signal). same_pdu (Some id) s.pdu) signals nowhere))
+  pub bytes_of_none : (id : ℕ)
+      → ((k : ℕ) (d : Item) → k < length items → (get_or items k d).pdu ≡ Some id → ⊥)
+      → 0 ≡ bytes_of_pdu signals id
+  bytes_of_none id none =
+      sym (ap (λ l. div_ceil (sum_by (λ (s : Signal). s.bits) l) 8)
+      (none_kept (λ (s : Signal). same_pdu (Some id) s.pdu) signals nowhere))
     where
       same : (o : Option ℕ) → same_pdu (Some id) o ≡ true → o ≡ Some id
       same None h = absurd (true≢false (sym h))
       same (Some other) h = ap Some (sym (eqb-true id other h))
 
-      nowhere : (k : ℕ) (d : Signal) → k < length signals → same_pdu (Some id) (get_or signals k d).pdu ≡ false
+      nowhere : (k : ℕ) (d : Signal) → k < length signals
+          → same_pdu (Some id) (get_or signals k d).pdu ≡ false
       nowhere k d lt =
           let (item, is) = item_at k lt in
-          false_from_ne_true _ (λ h. none is.number item is.within (ap (λ (i : Item). i.pdu) (sym is.at) ∙ sym (is.pdu d) ∙ same _ h))
+          false_from_ne_true _ (λ h. none is.number item
+          is.within (ap (λ (i : Item). i.pdu) (sym is.at) ∙ sym (is.pdu d) ∙ same _ h))

@@ -1,6 +1,7 @@
 -- The grouping of a placed matrix, and its classes by ascending identifier.
 use Rattle.std.specs.Prelude.{ℕ, nat_eq, List, map, filter}
 use Rattle.std.specs.List.{list_any, position_or_len, range_with_len}
+use Rattle.frame_ticks.specs.declared.bits.TheConstants.{IDENTIFIERS}
 use Rattle.pack_model.specs.Problem.{Parts, distinct}
 use Rattle.matrix_rows.specs.declared.matrix.MatrixRow.{MatrixRow}
 use Rattle.placed_matrix.specs.Items.{frame_of_item}
@@ -23,8 +24,10 @@ grouping_of problem rows = map (label_in (frame_identifiers problem rows)) (iden
 
 -- all identifiers of base frames, as ISO 11898-1 has them
 unfoldable pub identifiers : List ℕ
-identifiers = range_with_len 0 2048
+identifiers = range_with_len 0 IDENTIFIERS
 
 -- the labels of the frames by ascending identifier
 abbrev pub order_of : Parts → List MatrixRow → List ℕ
-order_of problem rows = map (label_in (frame_identifiers problem rows)) (filter (λ id. list_any (nat_eq id) (frame_identifiers problem rows)) identifiers)
+order_of problem rows =
+    map (label_in (frame_identifiers problem rows))
+    (filter (λ id. list_any (nat_eq id) (frame_identifiers problem rows)) identifiers)

@@ -13,7 +13,8 @@ is_named name row = bytes_eq name row.signal
 
 -- the name of an item's first signal
 abbrev pub name_of_item : List Signal → Item → List ℕ
-name_of_item signals item = option_map_or (λ signal. signal.name) (slice_get signals (slice_index item.members 0)) []
+name_of_item signals item =
+    option_map_or (λ signal. signal.name) (slice_get signals (slice_index item.members 0)) []
 
 -- the identifier of the frame that the signal of a name is in
 abbrev pub identifier_of : List MatrixRow → List ℕ → ℕ

@@ -1,4 +1,5 @@
--- The placed matrix: which rows are a communication matrix of a problem. Bit positions are those of AUTOSAR COM, headers those of AUTOSAR IpduM, data lengths those of ISO 11898-1.
+-- The placed matrix: which rows are a communication matrix of a problem. Bit positions are those of AUTOSAR
+-- COM, headers those of AUTOSAR IpduM, data lengths those of ISO 11898-1.
 use Rattle.std.specs.Prelude.{ℕ, ◌≡◌, ◌≢◌, ◌+◌, ◌*◌, ◌≤◌, nat_lt, List, filter, count_by, sum_by, All, Any, AllPairs, Option, Some, None, is_some, IsSome}
 use Rattle.pack_model.specs.declared.signal.Signal.{Signal}
 use Rattle.pack_model.specs.Problem.{Parts}
@@ -32,7 +33,8 @@ pub record SameFrame (row other : MatrixRow) : Type 0 where
   pub ticks : row.ticks ≡ other.ticks
   pub header : row.header ≡ other.header
 
--- rows of one frame are all of free signals or all of I-PDUs, and those of one I-PDU stand in one part of one frame
+-- rows of one frame are all of free signals or all of I-PDUs, and those of one I-PDU stand in one part of one
+-- frame
 pub record OneKind (row other : MatrixRow) : Type 0 where
   pub kind : row.id ≡ other.id → is_some row.pdu ≡ is_some other.pdu
   pub part : IsSome row.pdu → row.pdu ≡ other.pdu → (row.id ≡ other.id) × (row.at ≡ other.at)
@@ -43,23 +45,27 @@ bytes_before problem rows id at =
     sum_by (λ item. header_bytes (header_of_items (items_in_frame problem rows id)) + bytes_of_item item)
     (filter (λ item. nat_lt (at_of_item problem rows item) at) (items_in_frame problem rows id))
 
--- a part begins at 0 where its frame has no header; in a container it begins after its header, which follows the parts that begin before it
+-- a part begins at 0 where its frame has no header; in a container it begins after its header, which follows
+-- the parts that begin before it
 pub record InARow (problem : Parts) (rows : List MatrixRow) (row : MatrixRow) : Type 0 where
   pub alone : row.header ≡ NoHeader → row.at ≡ 0
-  pub among : row.header ≢ NoHeader → row.at ≡ header_bytes row.header + bytes_before problem rows row.id row.at
+  pub among : row.header ≢ NoHeader
+      → row.at ≡ header_bytes row.header + bytes_before problem rows row.id row.at
 
 -- different parts of a container begin at different bytes
 abbrev pub BeginApart : MatrixRow → MatrixRow → Type 0
 BeginApart row other = row.id ≡ other.id → row.header ≢ NoHeader → row.at ≡ other.at → row.pdu ≡ other.pdu
 
--- the row's frame has the least data length for its bytes, which are at most 64, and the greatest length of a frame of that size
+-- the row's frame has the least data length for its bytes, which are at most 64, and the greatest length of a
+-- frame of that size
 pub record FrameFits (problem : Parts) (rows : List MatrixRow) (row : MatrixRow) : Type 0 where
   pub size : fd_size_of (bytes_of_items (items_in_frame problem rows row.id)) ≡ Some row.size
   pub ticks : row.ticks ≡ worst_ticks_of problem.network row.size
 
 -- the bytes of an I-PDU: its signals' bits, rounded up
 abbrev pub bytes_of_pdu : List Signal → ℕ → ℕ
-bytes_of_pdu signals id = bytes_of (sum_by (λ signal. signal.bits) (filter (λ signal. same_pdu (Some id) signal.pdu) signals))
+bytes_of_pdu signals id =
+    bytes_of (sum_by (λ signal. signal.bits) (filter (λ signal. same_pdu (Some id) signal.pdu) signals))
 
 -- the bytes of the part of a signal in a frame: for a free signal those of the frame, else those of its I-PDU
 abbrev pub part_bytes : Parts → List MatrixRow → ℕ → Option ℕ → ℕ

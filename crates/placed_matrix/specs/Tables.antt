@@ -1,6 +1,8 @@
 -- Tables by identifier and by signal, which the checks of a matrix fill in one pass over its rows.
 use Rattle.std.specs.Prelude.{ℕ, ◌≡◌, ◌≢◌, ◌==◌, ◌+◌, ◌*◌, ◌<◌, ◌≤◌, nat_eq, nat_lt, List, [], filter, not, Option, Some, None, is_some, IsSome, slice_index, slice_index_or, length, sum_by, All, if◌then◌else◌}
 use Rattle.std.specs.List.{list_any, position_or_len}
+use Rattle.frame_ticks.specs.declared.bits.TheConstants.{IDENTIFIERS}
+use Rattle.pack_model.specs.declared.problem.TheConstants.{MAX_SIGNALS}
 use Rattle.pack_model.specs.declared.item.Item.{Item}
 use Rattle.pack_model.specs.declared.signal.Signal.{Signal}
 use Rattle.pack_model.specs.Problem.{Parts, names_of}
@@ -28,7 +30,9 @@ no_label = 4294967295
 -- each signal's place has the number of its first row
 abbrev pub HasRows : List Signal → List MatrixRow → List ℕ → Type 0
 HasRows signals rows row_of = (place : ℕ) → place < length signals →
-    (slice_index row_of place < length rows) × (position_or_len (is_named (slice_index_or (names_of signals) place [])) rows ≡ slice_index row_of place)
+    (slice_index row_of place < length rows)
+    × (position_or_len (is_named (slice_index_or (names_of signals) place [])) rows
+    ≡ slice_index row_of place)
 
 -- the label of an identifier in use
 abbrev pub label_or_none : List ℕ → ℕ → ℕ
@@ -36,7 +40,7 @@ label_or_none firsts id = if list_any (nat_eq id) firsts then label_in firsts id
 
 -- each identifier in use has its label, and no other has one
 abbrev pub HasLabels : List ℕ → List ℕ → Type 0
-HasLabels firsts label_of = (id : ℕ) → id < 2048 →
+HasLabels firsts label_of = (id : ℕ) → id < IDENTIFIERS →
     slice_index label_of id ≡ label_or_none firsts id
 
 -- the positions of a row's signal among those of all frames, by the frame's label
@@ -45,22 +49,27 @@ place_among label_of row = record { start = 512 * slice_index label_of row.id + 
 
 -- the table's labels are below 128 and tell the frames of the rows apart
 pub record LabelsApart (label_of : List ℕ) (rows : List MatrixRow) : Type 0 where
-  pub low : (k : ℕ) (d : MatrixRow) → k < length rows → slice_index label_of (slice_index_or rows k d).id < 128
-  pub apart : (i j : ℕ) (d : MatrixRow) → i < length rows → j < length rows → slice_index label_of (slice_index_or rows i d).id ≡ slice_index label_of (slice_index_or rows j d).id → (slice_index_or rows i d).id ≡ (slice_index_or rows j d).id
+  pub low : (k : ℕ) (d : MatrixRow) → k < length rows
+      → slice_index label_of (slice_index_or rows k d).id < 128
+  pub apart : (i j : ℕ) (d : MatrixRow) → i < length rows → j < length rows
+      → slice_index label_of (slice_index_or rows i d).id ≡ slice_index label_of (slice_index_or rows j d).id
+      → (slice_index_or rows i d).id ≡ (slice_index_or rows j d).id
 
 -- the item's first signal has a row in the table
 pub record FirstFound (rows : List MatrixRow) (row_of : List ℕ) (item : Item) : Type 0 where
   pub some : 0 < length item.members
-  pub low : slice_index item.members 0 < 2048
+  pub low : slice_index item.members 0 < MAX_SIGNALS
   pub within : slice_index row_of (slice_index item.members 0) < length rows
 
 -- the signals of these places have rows in the table
 abbrev pub AllFound : List MatrixRow → List ℕ → List ℕ → Type 0
-AllFound rows row_of places = All (λ place. (place < 2048) × (slice_index row_of place < length rows)) places
+AllFound rows row_of places =
+    All (λ place. (place < MAX_SIGNALS) × (slice_index row_of place < length rows)) places
 
 -- it holds of the rows of the signals of these places
 abbrev pub RowsOf : (MatrixRow → Type 0) → List MatrixRow → List ℕ → List ℕ → Type 0
-RowsOf holds rows row_of places = All (λ place. (d : MatrixRow) → holds (slice_index_or rows (slice_index row_of place) d)) places
+RowsOf holds rows row_of places =
+    All (λ place. (d : MatrixRow) → holds (slice_index_or rows (slice_index row_of place) d)) places
 
 -- the rows stand in one part of one frame
 pub record AtOnePlace (row other : MatrixRow) : Type 0 where
@@ -87,7 +96,9 @@ pub record StandTogether (row other : MatrixRow) : Type 0 where
 
 -- those of the items that are in the frame and whose part begins before a byte
 abbrev pub parts_before : Parts → List MatrixRow → ℕ → ℕ → List Item → List Item
-parts_before problem rows id at items = filter (λ item. nat_lt (at_of_item problem rows item) at) (filter (λ item. frame_of_item problem rows item == id) items)
+parts_before problem rows id at items =
+    filter (λ item. nat_lt (at_of_item problem rows item) at)
+    (filter (λ item. frame_of_item problem rows item == id) items)
 
 -- the bytes of parts, each with this header
 abbrev pub bytes_under : Header → List Item → ℕ
@@ -108,7 +119,8 @@ pub record BeginsAfter (row : MatrixRow) (before : ℕ) : Type 0 where
   pub alone : row.header ≡ NoHeader → row.at ≡ 0
   pub among : row.header ≢ NoHeader → row.at ≡ header_bytes row.header + before
 
--- the row's frame has the size and the ticks of so many bytes, and its signal lies in its part, which follows its header and so many bytes
+-- the row's frame has the size and the ticks of so many bytes, and its signal lies in its part, which follows
+-- its header and so many bytes
 pub record RowMeets (network : Network) (row : MatrixRow) (bytes part before : ℕ) : Type 0 where
   pub size : fd_size_of bytes ≡ Some row.size
   pub ticks : row.ticks ≡ worst_ticks_of network row.size
@@ -120,7 +132,8 @@ pub record MeetsFigures (network : Network) (row : MatrixRow) (figures : PartFig
   pub header : row.header ≡ figures.header
   pub meets : RowMeets network row figures.frame figures.part figures.before
 
--- the row has the header, the place, the size and the ticks that the items of its frame give, and its signal lies in its part
+-- the row has the header, the place, the size and the ticks that the items of its frame give, and its signal
+-- lies in its part
 pub record RowFits (problem : Parts) (rows : List MatrixRow) (row : MatrixRow) : Type 0 where
   pub header : row.header ≡ header_of_items (items_in_frame problem rows row.id)
   pub in_a_row : InARow problem rows row

@@ -8,8 +8,9 @@ ghost use Rattle.placed_matrix.specs.Tables.{AllFound, AtOnePlace, FirstFound, H
 
 use crate::frames::first_row;
 use container_pdu::Header;
+use frame_ticks::IDENTIFIERS;
 use matrix_rows::MatrixRow;
-use pack_model::{Item, Problem};
+use pack_model::{Item, MAX_SIGNALS, Problem};
 
 /// No row, in a table from identifiers to rows.
 const NO_ROW: usize = usize::MAX;
@@ -17,9 +18,10 @@ const NO_ROW: usize = usize::MAX;
 /// Whether the rows of each frame say the same of it and are of one kind.
 pub fn frames_agree(rows: &[MatrixRow]) -> bool
     requires { All RowInRange rows.now }
-    ensures { IsTrue result ↔ AllPairs (λ row other. row.id ≡ other.id → SameFrameAndKind row other) rows.now }
+    ensures { IsTrue result ↔ AllPairs
+        (λ row other. row.id ≡ other.id → SameFrameAndKind row other) rows.now }
 {
-    let mut first_of = [NO_ROW; 2048];
+    let mut first_of = [NO_ROW; IDENTIFIERS];
     for (number, row) in rows.iter().enumerate() {
         let id = row.id as usize;
         if first_of[id] == NO_ROW {
@@ -57,7 +59,7 @@ fn are_of_one_kind(row: &MatrixRow, other: &MatrixRow) -> bool
 
 /// Whether the rows of each I-PDU stand in one part, and different parts of a container begin at
 /// different bytes.
-pub fn parts_agree(problem: &Problem, rows: &[MatrixRow], row_of: &[usize; 2048]) -> bool
+pub fn parts_agree(problem: &Problem, rows: &[MatrixRow], row_of: &[usize; MAX_SIGNALS]) -> bool
     requires in_range { All RowInRange rows.now }
     requires one { OneRow problem.now.signals rows.now }
     requires rows { HasRows problem.now.signals rows.now row_of.now }
@@ -68,7 +70,7 @@ pub fn parts_agree(problem: &Problem, rows: &[MatrixRow], row_of: &[usize; 2048]
 }
 
 /// Whether the rows of each I-PDU stand in one part.
-fn pdus_agree(problem: &Problem, rows: &[MatrixRow], row_of: &[usize; 2048]) -> bool
+fn pdus_agree(problem: &Problem, rows: &[MatrixRow], row_of: &[usize; MAX_SIGNALS]) -> bool
     requires in_range { All RowInRange rows.now }
     requires one { OneRow problem.now.signals rows.now }
     requires rows { HasRows problem.now.signals rows.now row_of.now }
@@ -85,7 +87,12 @@ fn pdus_agree(problem: &Problem, rows: &[MatrixRow], row_of: &[usize; 2048]) -> 
 }
 
 /// Whether the rows of the signals of these places stand in one part with the row.
-fn stand_with(rows: &[MatrixRow], row_of: &[usize; 2048], places: &[u32], row: &MatrixRow) -> bool
+fn stand_with(
+    rows: &[MatrixRow],
+    row_of: &[usize; MAX_SIGNALS],
+    places: &[u32],
+    row: &MatrixRow,
+) -> bool
     requires { AllFound rows.now row_of.now places.now }
     ensures { IsTrue result ↔ RowsOf (λ other. AtOnePlace other row.now) rows.now row_of.now places.now }
 {
@@ -105,7 +112,7 @@ fn are_at_one_place(row: &MatrixRow, other: &MatrixRow) -> bool
 }
 
 /// Whether different parts of a container begin at different bytes.
-fn parts_begin_apart(problem: &Problem, rows: &[MatrixRow], row_of: &[usize; 2048]) -> bool
+fn parts_begin_apart(problem: &Problem, rows: &[MatrixRow], row_of: &[usize; MAX_SIGNALS]) -> bool
     requires in_range { All RowInRange rows.now }
     requires one { OneRow problem.now.signals rows.now }
     requires rows { HasRows problem.now.signals rows.now row_of.now }
@@ -126,13 +133,15 @@ fn parts_begin_apart(problem: &Problem, rows: &[MatrixRow], row_of: &[usize; 204
 /// Whether the row's part begins apart from that of each of the items.
 fn begins_apart_from(
     rows: &[MatrixRow],
-    row_of: &[usize; 2048],
+    row_of: &[usize; MAX_SIGNALS],
     items: &[Item],
     row: &MatrixRow,
 ) -> bool
     requires in_range { All RowInRange rows.now }
     requires members { All (FirstFound rows.now row_of.now) items.now }
-    ensures { IsTrue result ↔ All (λ item. (d : MatrixRow) → BeginApart (slice_index_or rows.now (slice_index row_of.now (slice_index item.members 0)) d) row.now) items.now }
+    ensures { IsTrue result ↔ All
+        (λ item. (d : MatrixRow) → BeginApart
+        (slice_index_or rows.now (slice_index row_of.now (slice_index item.members 0)) d) row.now) items.now }
 {
     for item in items {
         if !begin_apart(first_row(rows, row_of, item), row) {

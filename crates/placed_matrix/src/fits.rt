@@ -16,7 +16,7 @@ use container_pdu::Header;
 use fd_length::fd_size;
 use frame_ticks::worst_ticks;
 use matrix_rows::MatrixRow;
-use pack_model::{Network, Problem};
+use pack_model::{MAX_SIGNALS, Network, Problem};
 
 /// What the rows of one part must agree with.
 #[derive(Clone, Copy)]
@@ -35,7 +35,7 @@ struct PartFigures {
 pub fn rows_fit(
     problem: &Problem,
     rows: &[MatrixRow],
-    row_of: &[usize; 2048],
+    row_of: &[usize; MAX_SIGNALS],
     labels: &[u32],
 ) -> bool
     requires in_range { All RowInRange rows.now }
@@ -62,7 +62,7 @@ pub fn rows_fit(
 fn part_fits(
     problem: &Problem,
     rows: &[MatrixRow],
-    row_of: &[usize; 2048],
+    row_of: &[usize; MAX_SIGNALS],
     places: &[u32],
     first: &MatrixRow,
     sums: Sums,
@@ -93,7 +93,7 @@ fn part_fits(
 fn all_meet(
     network: &Network,
     rows: &[MatrixRow],
-    row_of: &[usize; 2048],
+    row_of: &[usize; MAX_SIGNALS],
     places: &[u32],
     figures: PartFigures,
 ) -> bool
@@ -102,7 +102,8 @@ fn all_meet(
     requires found { AllFound rows.now row_of.now places.now }
     requires part { figures.part ≤ 10000 }
     requires before { figures.before ≤ 10000 }
-    ensures { IsTrue result ↔ RowsOf (λ row. MeetsFigures network.now row figures) rows.now row_of.now places.now }
+    ensures { IsTrue result ↔ RowsOf
+        (λ row. MeetsFigures network.now row figures) rows.now row_of.now places.now }
 {
     for place in places {
         if !meets_figures(network, &rows[row_of[*place as usize]], figures) {
@@ -139,7 +140,8 @@ fn meets(network: &Network, row: &MatrixRow, bytes: u32, part: u32, before: u32)
 fn has_length(network: &Network, row: &MatrixRow, bytes: u32) -> bool
     requires network { NetworkStands network.now }
     requires in_range { RowInRange row.now }
-    ensures { IsTrue result ↔ ((fd_size_of bytes ≡ Some row.now.size) × (row.now.ticks ≡ worst_ticks_of network.now row.now.size)) }
+    ensures { IsTrue result ↔
+        ((fd_size_of bytes ≡ Some row.now.size) × (row.now.ticks ≡ worst_ticks_of network.now row.now.size)) }
 {
     match fd_size(bytes) {
         Some(size) => size == row.size && row.ticks == worst_ticks(network, row.size),
@@ -199,13 +201,14 @@ fn begins_after(row: &MatrixRow, before: u32) -> bool
 fn bytes_before(
     problem: &Problem,
     rows: &[MatrixRow],
-    row_of: &[usize; 2048],
+    row_of: &[usize; MAX_SIGNALS],
     row: &MatrixRow,
     header: Header,
 ) -> u32
     requires in_range { All RowInRange rows.now }
     requires rows { HasRows problem.now.signals rows.now row_of.now }
-    ensures bytes { result ≡ bytes_under header (parts_before problem.now rows.now row.now.id row.now.at problem.now.items) }
+    ensures bytes { result ≡ bytes_under header
+        (parts_before problem.now rows.now row.now.id row.now.at problem.now.items) }
     ensures low { result ≤ 10000 }
 {
     let items = problem.items();

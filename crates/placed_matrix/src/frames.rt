@@ -5,8 +5,9 @@ ghost use Rattle.placed_matrix.specs.Frames.{frame_identifiers, grouping_of};
 ghost use Rattle.matrix_rows.specs.Row.{RowInRange};
 ghost use Rattle.placed_matrix.specs.Tables.{FirstFound, HasRows, HasLabels, in_use};
 
+use frame_ticks::IDENTIFIERS;
 use matrix_rows::MatrixRow;
-use pack_model::{Item, Problem};
+use pack_model::{Item, MAX_SIGNALS, Problem};
 
 /// No label, in a table from identifiers to labels.
 const NO_LABEL: u32 = u32::MAX;
@@ -16,19 +17,19 @@ const NO_LABEL: u32 = u32::MAX;
 pub fn number_frames(
     problem: &Problem,
     rows: &[MatrixRow],
-    row_of: &[usize; 2048],
+    row_of: &[usize; MAX_SIGNALS],
     labels: &mut [u32],
-) -> [u32; 2048]
+) -> [u32; IDENTIFIERS]
     requires in_range { All RowInRange rows.now }
     requires rows { HasRows problem.now.signals rows.now row_of.now }
     requires labels { length labels.old ≡ length problem.now.items }
     ensures labels { labels.new ≡ grouping_of problem.now rows.now }
     ensures table { HasLabels (frame_identifiers problem.now rows.now) result }
-    ensures long { length result ≡ 2048 }
+    ensures long { length result ≡ IDENTIFIERS }
     ensures problem { IsProblem problem.now × IsSorted problem.now.signals problem.now.items }
 {
     let items = problem.items();
-    let mut label_of = [NO_LABEL; 2048];
+    let mut label_of = [NO_LABEL; IDENTIFIERS];
     let mut frames = 0;
     for (number, item) in items.iter().enumerate() {
         let id = first_row(rows, row_of, item).id as usize;
@@ -42,18 +43,23 @@ pub fn number_frames(
 }
 
 /// The row of an item's first signal.
-pub fn first_row<'a>(rows: &'a [MatrixRow], row_of: &[usize; 2048], item: &Item) -> &'a MatrixRow
+pub fn first_row<'a>(
+    rows: &'a [MatrixRow],
+    row_of: &[usize; MAX_SIGNALS],
+    item: &Item,
+) -> &'a MatrixRow
     requires in_range { All RowInRange rows.now }
     requires member { FirstFound rows.now row_of.now item.now }
     ensures in_range { RowInRange result.now }
-    ensures row { result.now ≡ slice_index_or rows.now (slice_index row_of.now (slice_index item.now.members 0)) result.now }
+    ensures row { result.now ≡ slice_index_or rows.now
+        (slice_index row_of.now (slice_index item.now.members 0)) result.now }
 {
     let first = item.members.as_slice()[0] as usize;
     &rows[row_of[first]]
 }
 
 /// Puts the labels in use at the front of `order`, by ascending identifier, and counts them.
-pub fn put_in_order(label_of: &[u32; 2048], order: &mut [u32]) -> usize
+pub fn put_in_order(label_of: &[u32; IDENTIFIERS], order: &mut [u32]) -> usize
     requires { length (in_use label_of.now) ≤ length order.old }
     ensures count { result ≡ length (in_use label_of.now) }
     ensures order { take result order.new ≡ in_use label_of.now }

@@ -4,18 +4,19 @@ ghost use Rattle.placed_matrix.specs.Placed.{OneRow, RowOf};
 ghost use Rattle.placed_matrix.specs.Tables.{HasRows};
 
 use matrix_rows::MatrixRow;
-use pack_model::{Problem, Signal};
+use pack_model::{MAX_SIGNALS, Problem, Signal};
 
 /// No row, in a table from places to rows.
 const NO_ROW: usize = usize::MAX;
 
 /// The number of each signal's row by the signal's place, or None where a signal has no row, or more
 /// than one, or a row is of no signal.
-pub fn find_rows(problem: &Problem, rows: &[MatrixRow]) -> Option<[usize; 2048]>
-    ensures { MatchOption result (¬ OneRow problem.now.signals rows.now) (λ row_of. OneRow problem.now.signals rows.now × HasRows problem.now.signals rows.now row_of) }
+pub fn find_rows(problem: &Problem, rows: &[MatrixRow]) -> Option<[usize; MAX_SIGNALS]>
+    ensures { MatchOption result (¬ OneRow problem.now.signals rows.now)
+        (λ row_of. OneRow problem.now.signals rows.now × HasRows problem.now.signals rows.now row_of) }
 {
     let signals = problem.signals();
-    let mut row_of = [NO_ROW; 2048];
+    let mut row_of = [NO_ROW; MAX_SIGNALS];
     for (number, row) in rows.iter().enumerate() {
         let place = problem.place_of(&row.signal)?;
         if row_of[place] != NO_ROW || !is_row_of(row, &signals[place]) {

@@ -30,11 +30,17 @@ loop-number-preserved c =
           let P : ℕ → Type 0 = λ n. n * (time + frame.jitter) ≤ 68719476736 * asks_of frame time in
           let Q : ℕ → Type 0 = λ n. c.from-share.result * (time + n) ≤ 68719476736 * asks_of frame time in
           let asked : c.from-share.result * (time + c.from.result) ≤ 68719476736 * asks_of frame time =
-          subst Q (sym c.from.ensures) (subst P (sym c.from-share.ensures) (share-le-asks frame 68719476736 time some)) in
-          let R : ℕ → Type 0 = λ n. c.loop-number.offset + c.from-share.result * c.from.result + (c.loop-number.slope + c.from-share.result) * time
+          subst Q (sym c.from.ensures)
+          (subst P (sym c.from-share.ensures) (share-le-asks frame 68719476736 time some)) in
+          let R : ℕ → Type 0 =
+          λ n.
+          c.loop-number.offset + c.from-share.result * c.from.result
+          + (c.loop-number.slope + c.from-share.result) * time
           ≤ 68719476736 * n in
-          subst R (sym (sum_by_more (λ i. asks_of (frame_at frames i) time) numbers index 0 c.loop-number-test.true))
-          (line-more 68719476736 c.loop-number.offset c.loop-number.slope c.from-share.result c.from.result time work (asks_of frame time)
+          subst R (sym (sum_by_more
+          (λ i. asks_of (frame_at frames i) time) numbers index 0 c.loop-number-test.true))
+          (line-more 68719476736 c.loop-number.offset c.loop-number.slope c.from-share.result c.from.result
+          time work (asks_of frame time)
           (c.loop-number.invariant.below time) asked);
       offset = omega (arith, c.loop-number.invariant.offset);
       slope = omega (arith, c.loop-number.invariant.slope);

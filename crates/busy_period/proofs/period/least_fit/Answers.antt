@@ -6,12 +6,20 @@ use Rattle.busy_period.proofs.period.least_fit.Goals as goal
 
 pub returns-then-asked-from-2-clause-none : goal.returns-then-asked-from-2-clause-none
 returns-then-asked-from-2-clause-none c = λ time fit.
-    omega (arith, fit-above _ _ _ c.args.ahead c.args.from c.loop-time.time time fit (c.loop-time.invariant.below time fit))
+    omega (
+      arith,
+      fit-above _ _ _ c.args.ahead c.args.from c.loop-time.time time fit
+          (c.loop-time.invariant.below time fit),
+    )
 
 pub loop-time-preserved : goal.loop-time-preserved
 loop-time-preserved c =
     record {
       begun = omega arith;
       below = λ time fit.
-          omega (arith, fit-above _ _ _ c.args.ahead c.args.from c.loop-time.time time fit (c.loop-time.invariant.below time fit));
+          omega (
+            arith,
+            fit-above _ _ _ c.args.ahead c.args.from c.loop-time.time time fit
+                (c.loop-time.invariant.below time fit),
+          );
     }

@@ -6,4 +6,5 @@ use Rattle.container_pdu.proofs.reading.read_parts.Given as goal
 abbrev pub invariant-loop : goal.invariant-loop
 invariant-loop l =
     (length l.rest ≤ length l.payload)
-    × (parts_after l.header (length l.payload) (length l.payload - l.counter) l.parts.items l.rest ≡ parts_of l.header l.payload)
+    × (parts_after l.header (length l.payload) (length l.payload - l.counter) l.parts.items l.rest
+    ≡ parts_of l.header l.payload)

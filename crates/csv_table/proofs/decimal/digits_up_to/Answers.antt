@@ -12,6 +12,7 @@ neither false = refl
 pub returns-then-value-limit : goal.returns-then-value-limit
 returns-then-value-limit c =
     let over : c.args.limit < value_after 0 c.args.bytes.now =
-    beyond c.loop-byte.value c.args.limit c.loop-byte.byte-index c.args.bytes.now c.loop-byte-test.true c.loop-byte.invariant.2 (omega (arith, c.if-value-limit.true)) in
+    beyond c.loop-byte.value c.args.limit c.loop-byte.byte-index c.args.bytes.now c.loop-byte-test.true
+    c.loop-byte.invariant.2 (omega (arith, c.if-value-limit.true)) in
     let none : nat_le (value_after 0 c.args.bytes.now) c.args.limit ≡ false = lt-leb _ _ over in
     rw (none, neither (all_ascii_digits c.args.bytes.now)) refl

@@ -23,7 +23,8 @@ returns c =
     let front = rw c.split_at.ensures.front at c.send_all.ensures.sends in
     let rest = rw c.split_at.ensures.back at c.send_all-2.ensures.sends in
     let value : c.ticks.result ≡ ticks_of network bits =
-    ticks_of-sent network bits (take 17 bits) (drop 17 bits) _ _ _ c.ticks.result _ c.idle-line.ensures.run c.idle-line.ensures.sent front rest
+    ticks_of-sent network bits (take 17 bits)
+    (drop 17 bits) _ _ _ c.ticks.result _ c.idle-line.ensures.run c.idle-line.ensures.sent front rest
     refl refl refl c.ticks.ensures in
     record {
       value = value;

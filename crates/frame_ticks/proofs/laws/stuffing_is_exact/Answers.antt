@@ -5,4 +5,5 @@ pub returns-clause-outcome : goal.returns-clause-outcome
 returns-clause-outcome c = Stuffed-exactly
 
 pub returns-clause-length : goal.returns-clause-length
-returns-clause-length c = λ network bits ticks. (ticks_of-from_Lasts network bits ticks, Lasts-from_value network bits ticks)
+returns-clause-length c =
+    λ network bits ticks. (ticks_of-from_Lasts network bits ticks, Lasts-from_value network bits ticks)

@@ -6,4 +6,5 @@ abbrev pub invariant-loop-position : goal.invariant-loop-position
 invariant-loop-position l =
     ((p : ℕ) → l.start ≤ p → p < l.position → slice_index_or l.initial.marks p false ≡ false)
     × ((p : ℕ) → l.start ≤ p → p < l.position → slice_index_or l.marks p false ≡ true)
-    × ((p : ℕ) → (p < l.start) ⊎ (l.position ≤ p) → slice_index_or l.marks p false ≡ slice_index_or l.initial.marks p false)
+    × ((p : ℕ) → (p < l.start) ⊎ (l.position ≤ p)
+    → slice_index_or l.marks p false ≡ slice_index_or l.initial.marks p false)

@@ -17,7 +17,8 @@ returns-then-not-mark c = (
 pub loop-place-preserved : goal.loop-place-preserved
 loop-place-preserved c =
     MarksBelow-more 512 c.args.places.now c.loop-place.place-index c.loop-place.marks _
-    c.loop-place-test.true c.mark.auto.marks c.loop-place.invariant (when_true _ _ c.if-not-mark.false c.mark.ensures)
+    c.loop-place-test.true c.mark.auto.marks c.loop-place.invariant
+    (when_true _ _ c.if-not-mark.false c.mark.ensures)
 
 pub returns : goal.returns
 returns c =

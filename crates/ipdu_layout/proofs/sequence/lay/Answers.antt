@@ -15,5 +15,7 @@ returns-clause-stand c =
     let whole = take_all c.loop-number.number c.args.bits.now c.loop-number-test.false in
     let bytes = c.div_ceil.ensures in
     let next = c.loop-number.invariant.0 in
-    let stand = PlacesStand-sequence c.loop-number.starts c.args.bits.now (omega arith) c.requires.in_range (λ k h. c.loop-number.invariant.1 k (omega arith)) in
+    let stand =
+    PlacesStand-sequence c.loop-number.starts c.args.bits.now (omega arith) c.requires.in_range
+    (λ k h. c.loop-number.invariant.1 k (omega arith)) in
     rw (bytes, next, whole) stand

@@ -5,7 +5,8 @@ use Rattle.matrix_layout.proofs.frame.frame_of.Goals as goal
 
 pub returns : goal.returns
 returns c = λ problem items are.
-    let size : c.unwrap_or-size.result ≡ unwrap_or (size_of_items items) 0 = c.unwrap_or-size.ensures ∙ ap (λ o. unwrap_or o 0) (c.size.ensures.value problem items are) in
+    let size : c.unwrap_or-size.result ≡ unwrap_or (size_of_items items) 0 = c.unwrap_or-size.ensures
+    ∙ ap (λ o. unwrap_or o 0) (c.size.ensures.value problem items are) in
     let header = c.header.ensures problem items are in
     λ i. record {
       id = c.args.id;

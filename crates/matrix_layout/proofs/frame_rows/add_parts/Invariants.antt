@@ -6,5 +6,8 @@ use Rattle.matrix_layout.proofs.frame_rows.add_parts.Given as goal
 
 abbrev pub invariant-loop-number : goal.invariant-loop-number
 invariant-loop-number l =
-    (l.rows.items ++ flat_map (rows_of_part (figures l.frame) l.problem.signals) (parts_from l.frame.header l.next (items_at l.problem.items (drop l.number-index l.numbers))) ≡ l.initial.rows.items ++ flat_map (rows_of_part (figures l.frame) l.problem.signals) (parts_from l.frame.header 0 (items_at l.problem.items l.numbers)))
+    (l.rows.items ++ flat_map (rows_of_part (figures l.frame) l.problem.signals)
+    (parts_from l.frame.header l.next (items_at l.problem.items (drop l.number-index l.numbers)))
+    ≡ l.initial.rows.items ++ flat_map (rows_of_part (figures l.frame) l.problem.signals)
+    (parts_from l.frame.header 0 (items_at l.problem.items l.numbers)))
     × (l.next + bytes_with l.frame.header (items_at l.problem.items (drop l.number-index l.numbers)) ≤ 64)

@@ -10,5 +10,9 @@ loop-place-preserved c =
     c.in_ok-push.ensures.items
     ∙ ap (λ s. c.loop-place.widths.items ++ s.bits ∷ []) (sym c.index-signals-place.is)
     ∙ ap (λ ws. ws ++ c.index-signals-place.result.bits ∷ []) c.loop-place.invariant
-    ∙ sym (ap widths_of (pick-more c.args.signals.now c.args.places.now c.loop-place.place-index c.index-signals-place.result (omega arith) (c.requires c.loop-place.place-index 0 (omega arith)) c.index-signals-place.is)
-    ∙ map_push (λ (s : Signal). s.bits) (signals_at c.args.signals.now (take c.loop-place.place-index c.args.places.now)) c.index-signals-place.result)
+    ∙ sym (ap widths_of (pick-more c.args.signals.now c.args.places.now c.loop-place.place-index
+    c.index-signals-place.result (omega arith)
+    (c.requires c.loop-place.place-index 0 (omega arith)) c.index-signals-place.is)
+    ∙ map_push (λ (s : Signal). s.bits)
+    (signals_at c.args.signals.now (take c.loop-place.place-index c.args.places.now))
+    c.index-signals-place.result)

@@ -8,5 +8,6 @@ use Rattle.matrix_rows.proofs.text.write_rows.Given as goal
 abbrev pub invariant-loop-row : goal.invariant-loop-row
 invariant-loop-row l =
     (l.out.row ≡ [])
-    × (l.out.text ++ rows_text (map row_fields (drop l.row-index l.rows)) ≡ l.initial.out.text ++ rows_text (map row_fields l.rows))
+    × (l.out.text ++ rows_text (map row_fields (drop l.row-index l.rows)) ≡ l.initial.out.text
+    ++ rows_text (map row_fields l.rows))
     × All ReadsBack (take l.row-index l.rows)

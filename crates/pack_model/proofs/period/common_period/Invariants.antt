@@ -7,5 +7,6 @@ abbrev pub invariant-loop-signal : goal.invariant-loop-signal
 invariant-loop-signal l = record {
   some : 1 ≤ l.hyper;
   high : l.hyper ≤ 1000000000000000;
-  rest : fold lcm l.hyper (drop l.signal-index (periods_of l.network l.signals)) ≡ hyper_of l.network l.signals;
+  rest : fold lcm l.hyper (drop l.signal-index (periods_of l.network l.signals))
+      ≡ hyper_of l.network l.signals;
 }

@@ -7,4 +7,5 @@ use Rattle.placed_matrix.proofs.checks.begins_apart_from.Given as goal
 
 -- the parts of the items so far begin apart from the row's
 abbrev pub invariant-loop-item : goal.invariant-loop-item
-invariant-loop-item l = (k : ℕ) (x : Item) → k < l.item-index → (d : MatrixRow) → BeginApart (first_of l.rows l.row_of (get_or l.items k x) d) l.row
+invariant-loop-item l = (k : ℕ) (x : Item) → k < l.item-index → (d : MatrixRow)
+    → BeginApart (first_of l.rows l.row_of (get_or l.items k x) d) l.row

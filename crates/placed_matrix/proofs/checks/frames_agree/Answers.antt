@@ -15,8 +15,10 @@ loop-number-init c = record {
 pub returns-then-not-agree : goal.returns-then-not-agree
 returns-then-not-agree c = (
   λ t. absurd (false≢true t),
-  λ agree. absurd (disagrees c.args.rows.now c.loop-number.number c.index-rows-number.result c.loop-number-test.true c.index-rows-number.is c.loop-number.first_of c.index-rows-first_of.result
-      (in_range_at c.args.rows.now c.loop-number.number c.index-rows-number.result c.loop-number-test.true c.index-rows-number.is c.requires).id c.if-first_of-id.false c.index-rows-first_of.is
+  λ agree. absurd (disagrees c.args.rows.now c.loop-number.number c.index-rows-number.result
+      c.loop-number-test.true c.index-rows-number.is c.loop-number.first_of c.index-rows-first_of.result
+      (in_range_at c.args.rows.now c.loop-number.number c.index-rows-number.result c.loop-number-test.true
+      c.index-rows-number.is c.requires).id c.if-first_of-id.false c.index-rows-first_of.is
       (λ same. false≢true (c.if-not-agree.ensures.1 same)) c.loop-number.invariant.first agree),
 )
 
@@ -25,17 +27,34 @@ loop-number-preserved c =
     elim c.if-first_of-id.branch [
       | then-first_of-id w ↦ record {
         long = ap length w.first_of-is ∙ length-set _ _ _ ∙ c.loop-number.invariant.long;
-        first = subst (λ t. (id : ℕ) → id < 2048 → HasFirst c.args.rows.now (c.loop-number.number + 1) id (get_or t id 0)) (sym w.first_of-is)
-            (with_first c.args.rows.now c.loop-number.number c.index-rows-number.result c.loop-number-test.true c.index-rows-number.is c.loop-number.first_of c.loop-number.invariant.long (omega arith)
-            (in_range_at c.args.rows.now c.loop-number.number c.index-rows-number.result c.loop-number-test.true c.index-rows-number.is c.requires).id w.if-first_of-id.true c.loop-number.invariant.first);
+        first =
+            subst (λ t. (id : ℕ) → id < 2048
+            → HasFirst c.args.rows.now (c.loop-number.number + 1) id (get_or t id 0)) (sym w.first_of-is)
+            (with_first c.args.rows.now c.loop-number.number c.index-rows-number.result
+            c.loop-number-test.true c.index-rows-number.is c.loop-number.first_of
+            c.loop-number.invariant.long (omega arith)
+            (in_range_at c.args.rows.now c.loop-number.number c.index-rows-number.result
+            c.loop-number-test.true c.index-rows-number.is c.requires).id w.if-first_of-id.true
+            c.loop-number.invariant.first);
       }
       | else-first_of-id+else-not-agree w ↦ record {
         long = ap length w.first_of-is ∙ c.loop-number.invariant.long;
-        first = subst (λ t. (id : ℕ) → id < 2048 → HasFirst c.args.rows.now (c.loop-number.number + 1) id (get_or t id 0)) (sym w.first_of-is)
-            (with_agreeing c.args.rows.now c.loop-number.number c.index-rows-number.result c.loop-number-test.true c.index-rows-number.is c.loop-number.first_of w.index-rows-first_of.result
-            (in_range_at c.args.rows.now c.loop-number.number c.index-rows-number.result c.loop-number-test.true c.index-rows-number.is c.requires).id w.if-first_of-id.false w.index-rows-first_of.is (w.agree.ensures.0 w.if-not-agree.false) c.loop-number.invariant.first);
+        first =
+            subst (λ t. (id : ℕ) → id < 2048
+            → HasFirst c.args.rows.now (c.loop-number.number + 1) id (get_or t id 0)) (sym w.first_of-is)
+            (with_agreeing c.args.rows.now c.loop-number.number c.index-rows-number.result
+            c.loop-number-test.true c.index-rows-number.is c.loop-number.first_of
+            w.index-rows-first_of.result
+            (in_range_at c.args.rows.now c.loop-number.number c.index-rows-number.result
+            c.loop-number-test.true c.index-rows-number.is c.requires).id w.if-first_of-id.false
+            w.index-rows-first_of.is (w.agree.ensures.0 w.if-not-agree.false)
+            c.loop-number.invariant.first);
       }
     ]
 
 pub returns : goal.returns
-returns c = (λ _. all_agree c.args.rows.now c.loop-number.number c.loop-number.first_of (omega arith) (λ k d lt. (c.requires k d lt).id) c.loop-number.invariant.first, λ _. refl)
+returns c = (
+  λ _. all_agree c.args.rows.now c.loop-number.number c.loop-number.first_of (omega arith)
+      (λ k d lt. (c.requires k d lt).id) c.loop-number.invariant.first,
+  λ _. refl,
+)

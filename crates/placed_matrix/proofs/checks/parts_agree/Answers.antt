@@ -4,7 +4,10 @@ use Rattle.placed_matrix.proofs.checks.parts_agree.Goals as goal
 
 pub returns-then-pdus_agree : goal.returns-then-pdus_agree
 returns-then-pdus_agree c = (
-  λ t i j d before within. record { part = c.pdus_agree.ensures.0 c.if-pdus_agree.true i j d before within; apart = c.parts_begin_apart.ensures.0 t i j d before within },
+  λ t i j d before within. record {
+    part = c.pdus_agree.ensures.0 c.if-pdus_agree.true i j d before within;
+    apart = c.parts_begin_apart.ensures.0 t i j d before within;
+  },
   λ all. c.parts_begin_apart.ensures.1 (λ i j d before within. (all i j d before within).apart),
 )
 

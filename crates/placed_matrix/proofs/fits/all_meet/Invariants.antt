@@ -5,4 +5,5 @@ use Rattle.placed_matrix.proofs.fits.all_meet.Given as goal
 
 -- the rows of the places so far agree with the figures
 abbrev pub invariant-loop-place : goal.invariant-loop-place
-invariant-loop-place l = (k : ℕ) (e : ℕ) → k < l.place-index → (d : MatrixRow) → MeetsFigures l.network (get_or l.rows (slice_index l.row_of (get_or l.places k e)) d) l.figures
+invariant-loop-place l = (k : ℕ) (e : ℕ) → k < l.place-index → (d : MatrixRow)
+    → MeetsFigures l.network (get_or l.rows (slice_index l.row_of (get_or l.places k e)) d) l.figures

@@ -5,4 +5,5 @@ use Rattle.placed_matrix.proofs.fits.rows_fit.Given as goal
 
 -- the rows of the items so far fit
 abbrev pub invariant-loop-number : goal.invariant-loop-number
-invariant-loop-number l = (k : ℕ) (d : Item) → k < l.number → RowsOf (RowFits l.problem l.rows) l.rows l.row_of (get_or l.items k d).members
+invariant-loop-number l = (k : ℕ) (d : Item) → k < l.number
+    → RowsOf (RowFits l.problem l.rows) l.rows l.row_of (get_or l.items k d).members

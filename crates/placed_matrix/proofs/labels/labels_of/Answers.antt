@@ -16,51 +16,97 @@ use Rattle.placed_matrix.proofs.labels.labels_of.Goals.{then-not-frames_agree-vi
 
 pub returns-then-not-frames_agree-clause-not_placed : goal.returns-then-not-frames_agree-clause-not_placed
 returns-then-not-frames_agree-clause-not_placed c = λ _ given.
-    let placed : Placed c.args.problem.now c.rows-rows.result.now = subst (Placed c.args.problem.now) (sym c.rows-rows.ensures.rows) given in
+    let placed : Placed c.args.problem.now c.rows-rows.result.now =
+    subst (Placed c.args.problem.now) (sym c.rows-rows.ensures.rows) given in
     elim c.then-not-frames_agree.branch [
-      | then-not-frames_agree-via-then-not-frames_agree w ↦ false≢true (sym w.if-not-frames_agree.true ∙ c.frames_agree.ensures.1 (λ i j d before within same. record { frame = placed.frames_agree i j d before within same; kind = (placed.one_kind i j d before within).kind same }))
-      | then-not-frames_agree-via-else-not-frames_agree+then-not-parts_agree w ↦ false≢true (sym w.if-not-parts_agree.true ∙ w.parts_agree.ensures.1 (λ i j d before within. record {
-        part = (placed.one_kind i j d before within).part;
-        apart = placed.parts_begin_apart i j d before within;
-      }))
+      | then-not-frames_agree-via-then-not-frames_agree w ↦ false≢true
+          (sym w.if-not-frames_agree.true
+          ∙ c.frames_agree.ensures.1
+          (λ i j d before within same.
+          record {
+            frame = placed.frames_agree i j d before within same;
+            kind = (placed.one_kind i j d before within).kind same;
+          }))
+      | then-not-frames_agree-via-else-not-frames_agree+then-not-parts_agree w ↦ false≢true
+          (sym w.if-not-parts_agree.true ∙ w.parts_agree.ensures.1 (λ i j d before within. record {
+            part = (placed.one_kind i j d before within).part;
+            apart = placed.parts_begin_apart i j d before within;
+          }))
     ]
 
 pub parts_agree-requires-clause-frames : goal.parts_agree-requires-clause-frames
 parts_agree-requires-clause-frames c = c.frames_agree.ensures.0 c.if-not-frames_agree.false
 
 pub rows_fit-requires-clause-parts : goal.rows_fit-requires-clause-parts
-rows_fit-requires-clause-parts c = λ i j d before within. (c.parts_agree.ensures.0 c.if-not-parts_agree.false i j d before within).part
+rows_fit-requires-clause-parts c =
+    λ i j d before within. (c.parts_agree.ensures.0 c.if-not-parts_agree.false i j d before within).part
 
 pub are_apart-requires-clause-inside : goal.are_apart-requires-clause-inside
 are_apart-requires-clause-inside c =
     let together = c.parts_agree.ensures.0 c.if-not-parts_agree.false in
-    within_frame c.args.problem.now c.number_frames-label_of.ensures.problem.0 c.number_frames-label_of.ensures.problem.1 c.rows-rows.result.now c.in_ok-row_of.ensures.0 c.in_ok-row_of.row_of c.in_ok-row_of.ensures.1
-    (λ i j d before within same. (c.frames_agree.ensures.0 c.if-not-frames_agree.false i j d before within same).kind) (λ i j d before within. (together i j d before within).part) (c.rows_fit.ensures.0 c.if-not-rows_fit.false)
+    within_frame c.args.problem.now c.number_frames-label_of.ensures.problem.0
+    c.number_frames-label_of.ensures.problem.1 c.rows-rows.result.now c.in_ok-row_of.ensures.0
+    c.in_ok-row_of.row_of c.in_ok-row_of.ensures.1
+    (λ i j d before within same.
+    (c.frames_agree.ensures.0 c.if-not-frames_agree.false i j d before within same).kind)
+    (λ i j d before within. (together i j d before within).part)
+    (c.rows_fit.ensures.0 c.if-not-rows_fit.false)
 
 pub are_apart-requires-clause-labels : goal.are_apart-requires-clause-labels
 are_apart-requires-clause-labels c =
-    labels_apart c.args.problem.now c.number_frames-label_of.ensures.problem.0 c.number_frames-label_of.ensures.problem.1 c.rows-rows.result.now c.in_ok-row_of.ensures.0 c.in_ok-row_of.row_of c.in_ok-row_of.ensures.1 (λ i j d before within. (c.parts_agree.ensures.0 c.if-not-parts_agree.false i j d before within).part)
+    labels_apart c.args.problem.now c.number_frames-label_of.ensures.problem.0
+    c.number_frames-label_of.ensures.problem.1 c.rows-rows.result.now c.in_ok-row_of.ensures.0
+    c.in_ok-row_of.row_of c.in_ok-row_of.ensures.1
+    (λ i j d before within. (c.parts_agree.ensures.0 c.if-not-parts_agree.false i j d before within).part)
     c.number_frames-label_of.result c.rows-rows.ensures.in_range c.number_frames-label_of.ensures.table
 
 pub returns-then-not-rows_fit-clause-not_placed : goal.returns-then-not-rows_fit-clause-not_placed
 returns-then-not-rows_fit-clause-not_placed c = λ _ given.
-    let placed : Placed c.args.problem.now c.rows-rows.result.now = subst (Placed c.args.problem.now) (sym c.rows-rows.ensures.rows) given in
+    let placed : Placed c.args.problem.now c.rows-rows.result.now =
+    subst (Placed c.args.problem.now) (sym c.rows-rows.ensures.rows) given in
     elim c.then-not-rows_fit.branch [
-      | then-not-rows_fit-via-then-not-rows_fit w ↦ false≢true (sym w.if-not-rows_fit.true ∙ c.rows_fit.ensures.1 (rows_fit c.args.problem.now c.rows-rows.result.now placed))
-      | then-not-rows_fit-via-else-not-rows_fit+then-not-are_apart w ↦ false≢true (sym w.if-not-are_apart.true ∙ w.are_apart.ensures.1 placed.no_overlap)
+      | then-not-rows_fit-via-then-not-rows_fit w ↦ false≢true
+          (sym w.if-not-rows_fit.true
+          ∙ c.rows_fit.ensures.1 (rows_fit c.args.problem.now c.rows-rows.result.now placed))
+      | then-not-rows_fit-via-else-not-rows_fit+then-not-are_apart w ↦ false≢true
+          (sym w.if-not-are_apart.true ∙ w.are_apart.ensures.1 placed.no_overlap)
     ]
 
 pub put_in_order-requires : goal.put_in_order-requires
 put_in_order-requires c =
     let used : in_use c.number_frames-label_of.result ≡ order_of c.args.problem.now c.rows-rows.result.now =
-    in_use_order c.args.problem.now c.number_frames-label_of.ensures.problem.0 c.number_frames-label_of.ensures.problem.1 c.rows-rows.result.now c.in_ok-row_of.ensures.0 c.in_ok-row_of.row_of c.in_ok-row_of.ensures.1 (λ i j d before within. (c.parts_agree.ensures.0 c.if-not-parts_agree.false i j d before within).part) c.number_frames-label_of.result c.number_frames-label_of.ensures.long c.number_frames-label_of.ensures.table in
-    omega (arith, ap length used, order_length c.args.problem.now c.rows-rows.result.now c.rows-rows.ensures.in_range, frames-le-items c.args.problem.now c.rows-rows.result.now, c.requires.order)
+    in_use_order c.args.problem.now c.number_frames-label_of.ensures.problem.0
+    c.number_frames-label_of.ensures.problem.1 c.rows-rows.result.now c.in_ok-row_of.ensures.0
+    c.in_ok-row_of.row_of c.in_ok-row_of.ensures.1
+    (λ i j d before within. (c.parts_agree.ensures.0 c.if-not-parts_agree.false i j d before within).part)
+    c.number_frames-label_of.result c.number_frames-label_of.ensures.long
+    c.number_frames-label_of.ensures.table in
+    omega (
+      arith,
+      ap length used,
+      order_length c.args.problem.now c.rows-rows.result.now c.rows-rows.ensures.in_range,
+      frames-le-items c.args.problem.now c.rows-rows.result.now,
+      c.requires.order,
+    )
 
 pub overflow_cast-result : goal.overflow_cast-result
 overflow_cast-result c =
     let used : in_use c.number_frames-label_of.result ≡ order_of c.args.problem.now c.rows-rows.result.now =
-    in_use_order c.args.problem.now c.number_frames-label_of.ensures.problem.0 c.number_frames-label_of.ensures.problem.1 c.rows-rows.result.now c.in_ok-row_of.ensures.0 c.in_ok-row_of.row_of c.in_ok-row_of.ensures.1 (λ i j d before within. (c.parts_agree.ensures.0 c.if-not-parts_agree.false i j d before within).part) c.number_frames-label_of.result c.number_frames-label_of.ensures.long c.number_frames-label_of.ensures.table in
-    let low : c.put_in_order.result ≤ 128 = omega (arith, c.put_in_order.ensures.count, ap length used, order_length c.args.problem.now c.rows-rows.result.now c.rows-rows.ensures.in_range, frames-le-items c.args.problem.now c.rows-rows.result.now, (tests c.args.problem.now c.number_frames-label_of.ensures.problem.0).few_items) in
+    in_use_order c.args.problem.now c.number_frames-label_of.ensures.problem.0
+    c.number_frames-label_of.ensures.problem.1 c.rows-rows.result.now c.in_ok-row_of.ensures.0
+    c.in_ok-row_of.row_of c.in_ok-row_of.ensures.1
+    (λ i j d before within. (c.parts_agree.ensures.0 c.if-not-parts_agree.false i j d before within).part)
+    c.number_frames-label_of.result c.number_frames-label_of.ensures.long
+    c.number_frames-label_of.ensures.table in
+    let low : c.put_in_order.result ≤ 128 =
+    omega (
+      arith,
+      c.put_in_order.ensures.count,
+      ap length used,
+      order_length c.args.problem.now c.rows-rows.result.now c.rows-rows.ensures.in_range,
+      frames-le-items c.args.problem.now c.rows-rows.result.now,
+      (tests c.args.problem.now c.number_frames-label_of.ensures.problem.0).few_items,
+    ) in
     omega (arith, low)
 
 placed_rows : (c : goal.After-slice_known-4-1) → Placed c.args.problem.now c.rows-rows.result.now
@@ -69,8 +115,15 @@ placed_rows c =
     let fits = c.rows_fit.ensures.0 c.if-not-rows_fit.false in
     record {
       one_row = c.in_ok-row_of.ensures.0;
-      frames_agree = λ i j d before within same. (c.frames_agree.ensures.0 c.if-not-frames_agree.false i j d before within same).frame;
-      one_kind = λ i j d before within. record { kind = λ same. (c.frames_agree.ensures.0 c.if-not-frames_agree.false i j d before within same).kind; part = (together i j d before within).part };
+      frames_agree =
+          λ i j d before within same.
+          (c.frames_agree.ensures.0 c.if-not-frames_agree.false i j d before within same).frame;
+      one_kind =
+          λ i j d before within. record {
+            kind =
+                λ same. (c.frames_agree.ensures.0 c.if-not-frames_agree.false i j d before within same).kind;
+            part = (together i j d before within).part;
+          };
       header_kind = λ k d lt. (fits k d lt).header;
       parts_in_a_row = λ k d lt. (fits k d lt).in_a_row;
       parts_begin_apart = λ i j d before within. (together i j d before within).apart;
@@ -86,33 +139,54 @@ pub returns-clause-one_place : goal.returns-clause-one_place
 returns-clause-one_place c =
     let together = c.parts_agree.ensures.0 c.if-not-parts_agree.false in
     subst (OnePlace c.args.problem.now) c.rows-rows.ensures.rows
-    (OnePlace-from_Placed c.args.problem.now c.number_frames-label_of.ensures.problem.0 c.number_frames-label_of.ensures.problem.1 c.rows-rows.result.now c.in_ok-row_of.ensures.0 c.in_ok-row_of.row_of c.in_ok-row_of.ensures.1
-    (λ i j d before within same. (c.frames_agree.ensures.0 c.if-not-frames_agree.false i j d before within same).kind) (λ i j d before within. (together i j d before within).part) (c.rows_fit.ensures.0 c.if-not-rows_fit.false) (placed_rows c))
+    (OnePlace-from_Placed c.args.problem.now c.number_frames-label_of.ensures.problem.0
+    c.number_frames-label_of.ensures.problem.1 c.rows-rows.result.now c.in_ok-row_of.ensures.0
+    c.in_ok-row_of.row_of c.in_ok-row_of.ensures.1
+    (λ i j d before within same.
+    (c.frames_agree.ensures.0 c.if-not-frames_agree.false i j d before within same).kind)
+    (λ i j d before within. (together i j d before within).part)
+    (c.rows_fit.ensures.0 c.if-not-rows_fit.false) (placed_rows c))
 
 -- the labels in use are those of the frames by ascending identifier
-used : (c : goal.After-slice_known-4-1) → in_use c.number_frames-label_of.result ≡ order_of c.args.problem.now c.rows-rows.result.now
+used : (c : goal.After-slice_known-4-1)
+    → in_use c.number_frames-label_of.result ≡ order_of c.args.problem.now c.rows-rows.result.now
 used c =
-    in_use_order c.args.problem.now c.number_frames-label_of.ensures.problem.0 c.number_frames-label_of.ensures.problem.1 c.rows-rows.result.now c.in_ok-row_of.ensures.0 c.in_ok-row_of.row_of c.in_ok-row_of.ensures.1
-    (λ i j d before within. (c.parts_agree.ensures.0 c.if-not-parts_agree.false i j d before within).part) c.number_frames-label_of.result c.number_frames-label_of.ensures.long c.number_frames-label_of.ensures.table
+    in_use_order c.args.problem.now c.number_frames-label_of.ensures.problem.0
+    c.number_frames-label_of.ensures.problem.1 c.rows-rows.result.now c.in_ok-row_of.ensures.0
+    c.in_ok-row_of.row_of c.in_ok-row_of.ensures.1
+    (λ i j d before within. (c.parts_agree.ensures.0 c.if-not-parts_agree.false i j d before within).part)
+    c.number_frames-label_of.result c.number_frames-label_of.ensures.long
+    c.number_frames-label_of.ensures.table
 
 pub returns-clause-frames : goal.returns-clause-frames
 returns-clause-frames c =
-    c.put_in_order.ensures.count ∙ ap length (used c) ∙ order_length c.args.problem.now c.rows-rows.result.now c.rows-rows.ensures.in_range
-    ∙ sym (classes_of_frames c.args.problem.now c.rows-rows.result.now) ∙ ap classes_of (sym c.number_frames-label_of.ensures.labels)
+    c.put_in_order.ensures.count ∙ ap length (used c)
+    ∙ order_length c.args.problem.now c.rows-rows.result.now c.rows-rows.ensures.in_range
+    ∙ sym (classes_of_frames c.args.problem.now c.rows-rows.result.now)
+    ∙ ap classes_of (sym c.number_frames-label_of.ensures.labels)
 
 pub returns-clause-named : goal.returns-clause-named
 returns-clause-named c =
-    subst (λ ls. IsOrder ls (take c.put_in_order.result c.put_in_order.new.order)) (sym c.number_frames-label_of.ensures.labels)
-    (subst (IsOrder (grouping_of c.args.problem.now c.rows-rows.result.now)) (sym (c.put_in_order.ensures.order ∙ used c))
+    subst (λ ls. IsOrder ls (take c.put_in_order.result c.put_in_order.new.order))
+    (sym c.number_frames-label_of.ensures.labels)
+    (subst (IsOrder (grouping_of c.args.problem.now c.rows-rows.result.now))
+    (sym (c.put_in_order.ensures.order ∙ used c))
     (is_order c.args.problem.now c.rows-rows.result.now c.rows-rows.ensures.in_range))
 
 pub returns-clause-order : goal.returns-clause-order
 returns-clause-order c =
     c.put_in_order.ensures.order
-    ∙ in_use_order c.args.problem.now c.number_frames-label_of.ensures.problem.0 c.number_frames-label_of.ensures.problem.1 c.rows-rows.result.now c.in_ok-row_of.ensures.0 c.in_ok-row_of.row_of c.in_ok-row_of.ensures.1 (λ i j d before within. (c.parts_agree.ensures.0 c.if-not-parts_agree.false i j d before within).part) c.number_frames-label_of.result c.number_frames-label_of.ensures.long c.number_frames-label_of.ensures.table
+    ∙ in_use_order c.args.problem.now c.number_frames-label_of.ensures.problem.0
+    c.number_frames-label_of.ensures.problem.1 c.rows-rows.result.now c.in_ok-row_of.ensures.0
+    c.in_ok-row_of.row_of c.in_ok-row_of.ensures.1
+    (λ i j d before within. (c.parts_agree.ensures.0 c.if-not-parts_agree.false i j d before within).part)
+    c.number_frames-label_of.result c.number_frames-label_of.ensures.long
+    c.number_frames-label_of.ensures.table
     ∙ ap (λ rows. order_of c.args.problem.now rows) c.rows-rows.ensures.rows
 
 pub returns-clause-legal : goal.returns-clause-legal
 returns-clause-legal c =
     subst (IsLegal c.args.problem.now.items) (sym c.number_frames-label_of.ensures.labels)
-    (is_legal c.args.problem.now c.number_frames-label_of.ensures.problem.0 c.number_frames-label_of.ensures.problem.1 c.rows-rows.result.now (placed_rows c) c.in_ok-row_of.row_of c.in_ok-row_of.ensures.1)
+    (is_legal c.args.problem.now c.number_frames-label_of.ensures.problem.0
+    c.number_frames-label_of.ensures.problem.1 c.rows-rows.result.now
+    (placed_rows c) c.in_ok-row_of.row_of c.in_ok-row_of.ensures.1)

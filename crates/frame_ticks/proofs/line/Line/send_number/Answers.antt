@@ -7,7 +7,8 @@ pub loop-place-preserved : goal.loop-place-preserved
 loop-place-preserved c =
     let sends = rw c.is_bit_set.ensures at c.send.ensures.sends in (
       λ new rest. c.loop-place.invariant.0 new
-          (rw (number_bits-down c.loop-place.place c.args.number c.loop-place-test.true) (Sends-append _ _ _ _ _ sends rest)),
+          (rw (number_bits-down c.loop-place.place c.args.number c.loop-place-test.true)
+          (Sends-append _ _ _ _ _ sends rest)),
       omega (arith, c.send.ensures.few, c.loop-place.invariant.1),
     )
 
