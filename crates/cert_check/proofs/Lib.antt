@@ -1,4 +1,3 @@
 pub mod BusLaws
 pub mod KindLaws
 pub mod Lines
-pub mod Stages

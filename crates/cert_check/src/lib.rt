@@ -6,9 +6,7 @@
 
 mod check;
 mod fault;
-mod frames;
 mod kinds;
-mod load;
 mod timing;
 
 pub use bandwidth_bound::Verdict;
