@@ -1,7 +1,7 @@
-use Rattle.std.proofs.Common.{◌≡◌, ◌+◌, ◌<◌, ◌≤◌, List, ℕ, length, sym, subst, ap, ◌∙◌, arith}
+use Rattle.std.proofs.Common.{◌≡◌, ◌<◌, List, ℕ, length, sym, subst, ap, ◌∙◌, arith}
 use Rattle.busy_period.specs.declared.timed.Timed.{Timed}
 use Rattle.busy_period.specs.Stage.{IsStage}
-use Rattle.response_test.specs.Order.{others_of, remaining_of}
+use Rattle.response_test.specs.Order.{others_of}
 use Rattle.bandwidth_bound.specs.Failing.{order_below}
 use Rattle.bandwidth_bound.proofs.Final.{distinct_rising, order_stage}
 use Rattle.bandwidth_bound.proofs.FinalNamed.{few_below, length-order, order-parts}
