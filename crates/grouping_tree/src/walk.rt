@@ -1,6 +1,6 @@
 //! A walk over partial groupings in preorder.
 ghost use Rattle.std.specs.Prelude.{ℕ, ◌≡◌, ◌≤◌, ◌<◌, ◌+◌, true, false, [], ◌∷◌, ◌++◌, length, take};
-ghost use Rattle.grouping_tree.specs.Grouped.{Belongs, labels_of, range_of, room_of};
+ghost use Rattle.grouping_tree.specs.Grouped.{Belongs, labels_of, range_of, room_of, sender_of};
 ghost use Rattle.grouping_tree.specs.Walk.{places_below, places_left};
 
 use crate::partial::Partial;
@@ -14,6 +14,7 @@ impl Partial {
         requires some { length (labels_of self.old) < length (range_of problem.now self.old) }
         ensures belongs { Belongs problem.now self.new }
         ensures range { range_of problem.now self.new ≡ range_of problem.now self.old }
+        ensures sender { sender_of self.new ≡ sender_of self.old }
         ensures room { room_of self.new ≡ room_of self.old }
         ensures one { length (labels_of self.new) ≡ length (labels_of self.old) + 1 }
         ensures front { take (length (labels_of self.old)) (labels_of self.new) ≡ labels_of self.old }
@@ -35,6 +36,7 @@ impl Partial {
         requires within { base ≤ length (labels_of self.old) }
         ensures belongs { Belongs problem.now self.new }
         ensures range { range_of problem.now self.new ≡ range_of problem.now self.old }
+        ensures sender { sender_of self.new ≡ sender_of self.old }
         ensures room { room_of self.new ≡ room_of self.old }
         ensures front { take base (labels_of self.new) ≡ take base (labels_of self.old) }
         ensures next { result ≡ true → (base < length (labels_of self.new))
