@@ -1,7 +1,7 @@
 //! Partial groupings of items, and the labels that may be put next.
 //!
-//! A partial grouping has labels for the first items, numbered by first use; its options are the labels that keep each
-//! class one that can become a frame.
+//! A partial grouping has labels for the first items, numbered by first use; its options are the labels
+//! that keep each class one that can become a frame.
 #![tactic(auto)]
 
 mod laws;

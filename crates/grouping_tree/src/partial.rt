@@ -68,14 +68,15 @@ impl Partial {
         Ok(Partial::over(alloc, problem, None)?)
     }
 
-    /// No labels, over the items of the sender of a number. Memory is taken for all later calls but `restart` over more
-    /// items.
+    /// No labels, over the items of the sender of a number. Memory is taken for all later calls but
+    /// `restart` over more items.
     pub fn of_sender(alloc: Global, problem: &Problem, sender: u32) -> Result<Partial, Memory>
         requires { sender < length problem.now.senders }
         ensures belongs { IfOk result (Belongs problem.now) }
         ensures none { IfOk result (λ partial. labels_of partial ≡ []) }
         ensures sender { IfOk result (λ partial. sender_of partial ≡ Some sender) }
-        ensures range { IfOk result (λ partial. range_of problem.now partial ≡ sent_by problem.now.items sender) }
+        ensures range { IfOk result (λ partial. range_of problem.now partial
+            ≡ sent_by problem.now.items sender) }
         ensures room { IfOk result (λ partial. room_of partial ≡ length (sent_by problem.now.items sender)) }
     {
         Ok(Partial::over(alloc, problem, Some(sender))?)
@@ -86,7 +87,8 @@ impl Partial {
         ensures belongs { IfOk result (Belongs problem.now) }
         ensures none { IfOk result (λ partial. labels_of partial ≡ []) }
         ensures sender { IfOk result (λ partial. sender_of partial ≡ sender) }
-        ensures range { IfOk result (λ partial. range_of problem.now partial ≡ items_in problem.now.items sender) }
+        ensures range { IfOk result (λ partial. range_of problem.now partial
+            ≡ items_in problem.now.items sender) }
         ensures room { IfOk result (λ partial. room_of partial ≡ length (items_in problem.now.items sender)) }
     {
         let place = place_in(problem, sender);
@@ -110,8 +112,9 @@ impl Partial {
         })
     }
 
-    /// Begins anew without labels, over the items of a sender of the problem, or over all. It has room for all items of
-    /// the problem, and takes no memory. The problem need not be the one to which it belonged.
+    /// Begins anew without labels, over the items of a sender of the problem, or over all. It has room
+    /// for all items of the problem, and takes no memory. The problem need not be the one to which it
+    /// belonged.
     pub fn restart(&mut self, problem: &Problem, sender: Option<u32>)
         requires belongs { (other : Parts) × Belongs other self.old }
         requires room { length problem.now.items ≤ room_of self.old }
@@ -160,8 +163,8 @@ impl Partial {
         self.classes
     }
 
-    /// The number of labels that may be put next: 0 where each item of the range has one. It goes once over the used
-    /// labels.
+    /// The number of labels that may be put next: 0 where each item of the range has one. It goes once
+    /// over the used labels.
     pub fn options(&self, problem: &Problem) -> u32
         requires { Belongs problem.now self.now }
         ensures { result ≡ length (options_of (range_of problem.now self.now) (labels_of self.now)) }
@@ -201,10 +204,12 @@ impl Partial {
     /// The least option that is at least `from`, if there is one.
     pub fn next_option(&self, problem: &Problem, from: u32) -> Option<u32>
         requires { Belongs problem.now self.now }
-        ensures option { MatchOption result (options_from (range_of problem.now self.now) (labels_of self.now) from ≡ [])
+        ensures option { MatchOption result
+            (options_from (range_of problem.now self.now) (labels_of self.now) from ≡ [])
             (λ label. options_from (range_of problem.now self.now) (labels_of self.now) from
             ≡ label ∷ options_from (range_of problem.now self.now) (labels_of self.now) (label + 1)) }
-        ensures legal { IfSome result (λ label. IsPartial (range_of problem.now self.now) (labels_of self.now ++ label ∷ [])) }
+        ensures legal { IfSome result (λ label.
+            IsPartial (range_of problem.now self.now) (labels_of self.now ++ label ∷ [])) }
     {
         if self.count == self.many {
             return None;
@@ -232,7 +237,8 @@ impl Partial {
         requires next { (problem : Parts) × Belongs problem self.now × IsNext problem self.now next }
         requires low { label ≤ classes_of (labels_of self.now) }
         ensures sums { (problem : Parts) → Belongs problem self.now → IsNext problem self.now next
-            → AreSums problem (class_of label (labels_of self.now ++ label ∷ []) (range_of problem self.now)) result }
+            → AreSums problem
+            (class_of label (labels_of self.now ++ label ∷ []) (range_of problem self.now)) result }
         ensures small { IsSmall result }
     {
         self.sums[label as usize].join(next)
@@ -251,11 +257,11 @@ impl Partial {
     /// The load of a class with these sums: 0 where it has no items.
     fn load_with(&self, sums: Sums) -> u128
         requires small { IsSmall sums }
-        requires known { (problem : Parts) × (items : List Item) × Belongs problem self.now × AreSums problem items sums
-            × (1 ≤ length items → HasSignal problem items) }
+        requires known { (problem : Parts) × (items : List Item) × Belongs problem self.now
+            × AreSums problem items sums × (1 ≤ length items → HasSignal problem items) }
         ensures none { sums.items ≡ 0 → result ≡ 0 }
-        ensures load { (problem : Parts) (items : List Item) → Belongs problem self.now → AreSums problem items sums
-            → HasSignal problem items → result ≡ load_of_items problem items }
+        ensures load { (problem : Parts) (items : List Item) → Belongs problem self.now
+            → AreSums problem items sums → HasSignal problem items → result ≡ load_of_items problem items }
     {
         if sums.items == 0 {
             0
@@ -330,8 +336,8 @@ impl Partial {
         }
     }
 
-    /// The loads of the classes together, in ticks of a common period, for every problem to which the partial grouping
-    /// belongs.
+    /// The loads of the classes together, in ticks of a common period, for every problem to which the
+    /// partial grouping belongs.
     pub fn kept_load(&self) -> u128
         requires { (problem : Parts) × Belongs problem self.now }
         ensures { (problem : Parts) → Belongs problem self.now
@@ -390,7 +396,8 @@ struct Place {
 
 /// The place of the items of a sender, or of all.
 fn place_in(problem: &Problem, sender: Option<u32>) -> Place
-    ensures slice { take result.many (drop result.first problem.now.items) ≡ items_in problem.now.items sender }
+    ensures slice { take result.many (drop result.first problem.now.items)
+        ≡ items_in problem.now.items sender }
     ensures inside { result.first + result.many ≤ length problem.now.items }
 {
     let items = problem.items();

@@ -7,8 +7,8 @@ use crate::partial::Partial;
 use pack_model::Problem;
 
 impl Partial {
-    /// Goes down to the first place below: puts the least option. An item is left. Below any of the places on the way,
-    /// the places still to come are then those below and those that were left before.
+    /// Goes down to the first place below: puts the least option. An item is left. Below any of the
+    /// places on the way, the places still to come are then those below and those that were left before.
     pub fn enter(&mut self, problem: &Problem)
         requires belongs { Belongs problem.now self.old }
         requires some { length (labels_of self.old) < length (range_of problem.now self.old) }
@@ -29,8 +29,8 @@ impl Partial {
         self.put(problem, label);
     }
 
-    /// Goes to the next place in preorder that is not below this one, but below the first `base` labels; false where
-    /// there is none, and then only those labels stay.
+    /// Goes to the next place in preorder that is not below this one, but below the first `base` labels;
+    /// false where there is none, and then only those labels stay.
     pub fn leave(&mut self, problem: &Problem, base: usize) -> bool
         requires belongs { Belongs problem.now self.old }
         requires within { base ≤ length (labels_of self.old) }
