@@ -3,6 +3,7 @@ pub mod Fronts
 pub mod Loads
 pub mod Options
 pub mod Puts
+pub mod Senders
 pub mod Steps
 pub mod Used
 pub mod Walks

@@ -29,8 +29,14 @@ sum_moved f g l a (suc n) le lt same = by (cases_eq a l) (sum_moved f g l (a + 1
     by : (a ≡ l) ⊎ (a ≡ l → ⊥) → (a + 1 ≤ l → l < a + 1 + n → ((k : ℕ) → (k ≡ l → ⊥) → f k ≡ g k) → sum_by g (range_with_len (a + 1) n) + f l ≡ sum_by f (range_with_len (a + 1) n) + g l)
         → sum_by g (range_with_len a (suc n)) + f l ≡ sum_by f (range_with_len a (suc n)) + g l
     by (inl e) ih =
-        omega (arith, sum_by-cons f a (range_with_len (a + 1) n), sum_by-cons g a (range_with_len (a + 1) n), ap f e, ap g e,
-        sum_same f g (a + 1) n (λ k le lt. same k (λ i. omega (arith, le, i, e))))
+        omega (
+          arith,
+          sum_by-cons f a (range_with_len (a + 1) n),
+          sum_by-cons g a (range_with_len (a + 1) n),
+          ap f e,
+          ap g e,
+          sum_same f g (a + 1) n (λ k le lt. same k (λ i. omega (arith, le, i, e))),
+        )
     by (inr ne) ih =
         omega (arith, sum_by-cons f a (range_with_len (a + 1) n), sum_by-cons g a (range_with_len (a + 1) n), same a ne, ih (omega (arith, le, ne)) (omega (arith, lt)) same)
 

@@ -183,8 +183,7 @@ load_put_is problem p label old new next sums with_next b is low are will none b
     (λ here. none (ap (λ (s : Sums). s.items) are ∙ ap length (class-unused (labels_of p) range label (omega (arith, here))))) in
     let is_new : new ≡ load_of_items problem (class_of label (labels_of p ++ label ∷ []) range) = after problem (class_of label (labels_of p ++ label ∷ []) range) b will signal in
     let all = loads_low problem range (labels_of p) b.stands (λ k lt. used_signal problem p k b lt) in
-    let one = load_low problem (class_of label (labels_of p ++ label ∷ []) range) b.stands signal in
-    (
+    let one = load_low problem (class_of label (labels_of p ++ label ∷ []) range) b.stands signal in (
       omega (arith, put.1, b.load),
       omega (arith, all, b.load, classes_few problem p b, b.within, few problem p b),
       omega (arith, one, is_new),

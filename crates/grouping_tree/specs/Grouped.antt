@@ -1,7 +1,7 @@
 -- Running sums of a partial grouping of a range of items: the project's own.
-use Rattle.std.specs.Prelude.{ℕ, ◌≡◌, ◌<◌, ◌≤◌, ◌+◌, List, [], ◌∷◌, length, take, drop, slice_index, slice_index_or}
+use Rattle.std.specs.Prelude.{ℕ, ◌≡◌, ◌<◌, ◌≤◌, ◌+◌, List, [], ◌∷◌, length, take, drop, slice_index, slice_index_or, Option, None, Some}
 use Rattle.pack_model.specs.declared.item.Item.{Item}
-use Rattle.pack_model.specs.Problem.{Parts, IsProblem}
+use Rattle.pack_model.specs.Problem.{Parts, IsProblem, sent_by}
 use Rattle.class_frame.specs.Grouping.{class_of, classes_of}
 use Rattle.class_frame.specs.Classes.{load_of}
 use Rattle.class_frame.specs.Sums.{AreSums}
@@ -13,6 +13,15 @@ use Rattle.grouping_tree.specs.declared.partial.Before.{Before}
 -- the number of items that the memory was taken for
 abbrev pub room_of : Partial → ℕ
 room_of p = length p.labels.items
+
+-- the items of a sender; where none is given, all
+abbrev pub items_in : List Item → Option ℕ → List Item
+items_in items None = items
+items_in items (Some sender) = sent_by items sender
+
+-- the sender whose items the range has; none over all items
+abbrev pub sender_of : Partial → Option ℕ
+sender_of p = p.sender
 
 -- the items of the range
 abbrev pub range_of : Parts → Partial → List Item
@@ -36,12 +45,13 @@ pub record IsBefore (problem : Parts) (range : List Item) (labels : List ℕ) (l
   pub classes : before.classes ≡ classes_of labels
   pub load : before.load ≡ load_of problem range labels
 
--- the problem stands, the range is there in it and has room, the labels are a partial grouping of it, and what is kept is that of the labels: of all, and of those before each
+-- the problem stands, the range is there in it, has the sender's items and has room, the labels are a partial grouping of it, and what is kept is that of the labels: of all, and of those before each
 pub record Belongs (problem : Parts) (p : Partial) : Type 0 where
   pub stands : IsProblem problem
   pub network : problem.network ≡ p.network
   pub hyper : problem.hyper ≡ p.hyper
   pub inside : p.first + p.many ≤ length problem.items
+  pub range : range_of problem p ≡ items_in problem.items p.sender
   pub within : p.count ≤ p.many
   pub enough : p.many ≤ room_of p
   pub sums_room : length p.sums.items ≡ room_of p

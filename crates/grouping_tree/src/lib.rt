@@ -1,7 +1,7 @@
 //! Partial groupings of items, and the labels that may be put next.
 //!
-//! A partial grouping has labels for the first items, numbered by first use; its options are the labels that keep each
-//! class one that can become a frame.
+//! A partial grouping has labels for the first items, numbered by first use; its options are the labels
+//! that keep each class one that can become a frame.
 #![tactic(auto)]
 
 mod laws;
@@ -9,7 +9,7 @@ mod partial;
 mod walk;
 
 pub use laws::{
-    classes_extend, classes_grow, options_ascend, fronts_are_legal, full_is_legal, legal_is_partial, new_is_option, next_is_option,
-    options_are_legal,
+    classes_extend, classes_grow, fronts_are_legal, full_is_legal, legal_is_partial, new_is_option,
+    next_is_option, options_are_legal, options_ascend,
 };
 pub use partial::{Kept, Partial};

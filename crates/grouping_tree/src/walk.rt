@@ -1,19 +1,20 @@
 //! A walk over partial groupings in preorder.
 ghost use Rattle.std.specs.Prelude.{ℕ, ◌≡◌, ◌≤◌, ◌<◌, ◌+◌, true, false, [], ◌∷◌, ◌++◌, length, take};
-ghost use Rattle.grouping_tree.specs.Grouped.{Belongs, labels_of, range_of, room_of};
+ghost use Rattle.grouping_tree.specs.Grouped.{Belongs, labels_of, range_of, room_of, sender_of};
 ghost use Rattle.grouping_tree.specs.Walk.{places_below, places_left};
 
 use crate::partial::Partial;
 use pack_model::Problem;
 
 impl Partial {
-    /// Goes down to the first place below: puts the least option. An item is left. Below any of the places on the way,
-    /// the places still to come are then those below and those that were left before.
+    /// Goes down to the first place below: puts the least option. An item is left. Below any of the
+    /// places on the way, the places still to come are then those below and those that were left before.
     pub fn enter(&mut self, problem: &Problem)
         requires belongs { Belongs problem.now self.old }
         requires some { length (labels_of self.old) < length (range_of problem.now self.old) }
         ensures belongs { Belongs problem.now self.new }
         ensures range { range_of problem.now self.new ≡ range_of problem.now self.old }
+        ensures sender { sender_of self.new ≡ sender_of self.old }
         ensures room { room_of self.new ≡ room_of self.old }
         ensures one { length (labels_of self.new) ≡ length (labels_of self.old) + 1 }
         ensures front { take (length (labels_of self.old)) (labels_of self.new) ≡ labels_of self.old }
@@ -28,13 +29,14 @@ impl Partial {
         self.put(problem, label);
     }
 
-    /// Goes to the next place in preorder that is not below this one, but below the first `base` labels; false where
-    /// there is none, and then only those labels stay.
+    /// Goes to the next place in preorder that is not below this one, but below the first `base` labels;
+    /// false where there is none, and then only those labels stay.
     pub fn leave(&mut self, problem: &Problem, base: usize) -> bool
         requires belongs { Belongs problem.now self.old }
         requires within { base ≤ length (labels_of self.old) }
         ensures belongs { Belongs problem.now self.new }
         ensures range { range_of problem.now self.new ≡ range_of problem.now self.old }
+        ensures sender { sender_of self.new ≡ sender_of self.old }
         ensures room { room_of self.new ≡ room_of self.old }
         ensures front { take base (labels_of self.new) ≡ take base (labels_of self.old) }
         ensures next { result ≡ true → (base < length (labels_of self.new))

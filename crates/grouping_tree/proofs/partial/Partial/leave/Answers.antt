@@ -45,6 +45,7 @@ loop-self-preserved c =
     record {
       belongs = c.take_back.ensures.belongs;
       range = c.take_back.ensures.range ∙ c.loop-self.invariant.range;
+      sender = c.take_back.ensures.sender ∙ c.loop-self.invariant.sender;
       room = c.take_back.ensures.room ∙ c.loop-self.invariant.room;
       within = le;
       front = front-stays base (labels_of p) (labels_of q) l is le ∙ c.loop-self.invariant.front;

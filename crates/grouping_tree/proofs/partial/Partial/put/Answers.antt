@@ -53,6 +53,7 @@ returns-clause-belongs c =
       stands = b.stands;
       network = b.network;
       inside = b.inside;
+      range = b.range;
       within = omega (arith, some);
       enough = omega (arith, b.enough, length-set p.labels.items p.count label);
       sums_room = length-set p.sums.items label _ ∙ b.sums_room ∙ sym (length-set p.labels.items p.count label);

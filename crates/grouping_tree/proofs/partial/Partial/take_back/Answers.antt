@@ -33,6 +33,7 @@ returns-clause-belongs c =
       stands = b.stands;
       network = b.network;
       inside = b.inside;
+      range = b.range;
       within = omega (arith, b.within);
       enough = b.enough;
       sums_room = length-set p.sums.items label c.index-before.result.now.sums ∙ b.sums_room;
