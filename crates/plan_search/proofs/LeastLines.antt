@@ -16,15 +16,19 @@ use Rattle.cert_text.specs.Written.{HasRoom}
 use Rattle.plan_search.specs.Lines.{IsLeastLine}
 
 -- a frame that passes has a busy period
-pub has_busy : (frames : List Timed) (order : List ℕ) (bit place : ℕ) (found : Option ℕ) → FramePasses frames order place bit
+pub has_busy : (frames : List Timed) (order : List ℕ) (bit place : ℕ) (found : Option ℕ)
+    → FramePasses frames order place bit
     → IfNone found ((time : ℕ) → ¬ (FrameBusy frames order place time)) → IsSome found
-has_busy frames order bit place None passes none = absurd (none passes.busy (record { busy = passes.least.busy.holds; short = passes.least.short }))
+has_busy frames order bit place None passes none = absurd
+    (none passes.busy (record { busy = passes.least.busy.holds; short = passes.least.short }))
 has_busy frames order bit place (Some time) passes none = refl
 
-module _ (frames : List Timed) (order : List ℕ) (bit place : ℕ) (line : FrameLine) (least : IsLeastLine frames order bit place line) where
+module _ (frames : List Timed) (order : List ℕ) (bit place : ℕ) (line : FrameLine)
+    (least : IsLeastLine frames order bit place line) where
   -- the least busy period is that of the written test
   same_busy : (passes : FramePasses frames order place bit) → passes.busy ≡ line.busy
-  same_busy passes = least_unique (IsBusy (demand_of frames order place)) passes.busy line.busy passes.least.busy least.busy.busy
+  same_busy passes = least_unique (IsBusy
+      (demand_of frames order place)) passes.busy line.busy passes.least.busy least.busy.busy
 
   -- the least numbers show that the frame passes
   pub least_shows : FramePasses frames order place bit → IsShown frames order place bit line.busy line.queue
@@ -34,15 +38,18 @@ module _ (frames : List Timed) (order : List ℕ) (bit place : ℕ) (line : Fram
     can_start = λ instance inside. (least.starts instance inside).holds;
     in_time = λ instance inside.
         let it : InstancePasses (own_of frames order place) (queueing_of frames order place bit) instance =
-        passes.each instance (omega (arith, inside, least.count, ap (instances_of (own_of frames order place)) (same_busy passes))) in
+        passes.each instance (omega (arith, inside, least.count, ap
+            (instances_of (own_of frames order place)) (same_busy passes))) in
         subst (FrameIsInTime frames order place instance)
-        (least_unique (FrameCanStart frames order place bit instance) it.start (get_or line.queue instance 0) it.least (least.starts instance inside)) it.in_time;
+        (least_unique (FrameCanStart frames order place bit instance) it.start
+            (get_or line.queue instance 0) it.least (least.starts instance inside)) it.in_time;
   }
 
   -- there are 1 to 256 starts
   pub least_has_room : IsStage frames order place → HasRoom line
   least_has_room stage =
       let some = (own_is_in_range frames order place stage).some_period in
-      let few = quotient-le (line.busy + (own_of frames order place).jitter) (own_of frames order place).period 256 some least.busy.short in
+      let few = quotient-le (line.busy + (own_of frames order place).jitter)
+          (own_of frames order place).period 256 some least.busy.short in
       let first = some_instance (own_of frames order place) line.busy least.busy.busy.holds.some some in
       (omega (arith, least.count, first), omega (arith, least.count, few))

@@ -34,8 +34,8 @@ load_alone problem = load_of problem problem.items (labels_alone problem)
 abbrev pub timed_parts : List FrameLine → CertParts
 timed_parts lines = record { kind = KindTimed; frames = lines; lemmas = []; main_tree = None }
 
--- the frames of one item each are in time in the order of lowest-priority-first assignment: the matrix is that of this order,
--- and the certificate has the least numbers that show it
+-- the frames of one item each are in time in the order of lowest-priority-first assignment: the matrix is
+-- that of this order, and the certificate has the least numbers that show it
 pub record IsInTime (problem : Parts) (rows : List MatrixRow) (cert : CertParts) : Type 0 where
   pub order : List ℕ
   pub lowest_first : IsLowestFirst (frames_alone problem) problem.network.nominal_ticks 0 order
@@ -43,10 +43,13 @@ pub record IsInTime (problem : Parts) (rows : List MatrixRow) (cert : CertParts)
   pub lines : AreLeastLines (frames_alone problem) order problem.network.nominal_ticks cert.frames
   pub certificate : cert ≡ timed_parts cert.frames
 
--- this is planned: the frames of one item each in time, exactly where some order of them passes, and else in item order
+-- this is planned: the frames of one item each in time, exactly where some order of them passes, and else in
+-- item order
 abbrev pub IsPlanAlone : Parts → Alone → Type 0
-IsPlanAlone problem (alone.InTime rows cert) = Solvable problem (labels_alone problem) × IsInTime problem rows cert
-IsPlanAlone problem (alone.Untimed rows) = (¬ Solvable problem (labels_alone problem)) × (rows ≡ rows_one_each problem)
+IsPlanAlone problem (alone.InTime rows cert) = Solvable problem (labels_alone problem)
+    × IsInTime problem rows cert
+IsPlanAlone problem (alone.Untimed rows) = (¬ Solvable problem (labels_alone problem))
+    × (rows ≡ rows_one_each problem)
 
 -- the matrix that is planned
 abbrev pub matrix_alone : Alone → List MatrixRow

@@ -6,5 +6,6 @@ use Rattle.plan_search.specs.declared.alone.Alone.{Alone}
 
 -- a problem has one such plan
 abbrev pub PlanAloneIsOne : Type 0
-PlanAloneIsOne = (problem : Parts) (plan other : Alone) → IsProblem problem → IsSorted problem.signals problem.items
+PlanAloneIsOne = (problem : Parts) (plan other : Alone) → IsProblem problem
+    → IsSorted problem.signals problem.items
     → IsPlanAlone problem plan → IsPlanAlone problem other → plan ≡ other

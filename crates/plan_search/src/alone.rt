@@ -31,7 +31,8 @@ use std::alloc::{AllocError, Global};
 /// The plan in which each item has a frame of its own.
 #[derive(Debug, Drop)]
 pub enum Alone {
-    /// Each frame passes the response-time test: the matrix, and the certificate of the kind `timed` that shows it.
+    /// Each frame passes the response-time test: the matrix, and the certificate of the kind `timed` that
+    /// shows it.
     InTime(Matrix, Cert),
     /// No order has each frame pass: the matrix by item.
     Untimed(Matrix),
@@ -51,15 +52,17 @@ fn timed_cert(alloc: Global, lines: Vec<FrameLine>) -> Cert
     Cert::of(Kind::KindTimed, lines, Vec::new(alloc), None)
 }
 
-/// The order of lowest-priority-first assignment, none exactly where no order has each frame pass. `bit` is the time of a
-/// nominal bit in ticks. The only error is want of memory.
+/// The order of lowest-priority-first assignment, none exactly where no order has each frame pass. `bit` is
+/// the time of a nominal bit in ticks. The only error is want of memory.
 fn passing_order(alloc: Global, frames: &[Timed], bit: u64) -> Result<Option<Vec<u32>>, Memory>
     requires few { length frames.now ≤ 128 }
     requires in_range { All IsInRange frames.now }
     requires bit { IsBit frames.now bit }
-    ensures lowest_first { IfOk result (λ found. IfSome found (λ order. IsLowestFirst frames.now bit 0 order.items)) }
+    ensures lowest_first { IfOk result (λ found. IfSome found
+        (λ order. IsLowestFirst frames.now bit 0 order.items)) }
     ensures passes { IfOk result (λ found. IfSome found (λ order. OrderPasses frames.now bit order.items)) }
-    ensures none { IfOk result (λ found. IfNone found ((order : List ℕ) → ¬ (OrderPasses frames.now bit order))) }
+    ensures none { IfOk result (λ found. IfNone found ((order : List ℕ)
+        → ¬ (OrderPasses frames.now bit order))) }
 {
     let mut order = vec![in alloc; 0u32; frames.len()]?;
     match assign(frames, bit, &mut order) {
@@ -68,8 +71,8 @@ fn passing_order(alloc: Global, frames: &[Timed], bit: u64) -> Result<Option<Vec
     }
 }
 
-/// The plan of the frames of one item each in an order in which each passes: the matrix of that order, and the least busy
-/// periods and starts. The only error is want of memory.
+/// The plan of the frames of one item each in an order in which each passes: the matrix of that order, and
+/// the least busy periods and starts. The only error is want of memory.
 fn in_time(
     alloc: Global,
     problem: &Problem,
@@ -84,7 +87,8 @@ fn in_time(
     requires lowest_first { IsLowestFirst frames.now problem.now.network.nominal_ticks 0 order.now }
     requires passes { OrderPasses frames.now problem.now.network.nominal_ticks order.now }
     ensures exact { IfOk result (IsPlanAlone problem.now) }
-    ensures accepted { IfOk result (λ plan. Accepts (judged_alone problem.now plan) (verdict_alone problem.now plan)) }
+    ensures accepted { IfOk result (λ plan. Accepts (judged_alone problem.now plan)
+        (verdict_alone problem.now plan)) }
     ensures fits { IfOk result (λ plan. CertFits (cert_alone plan)) }
 {
     let bit = u64::from(problem.network().nominal_ticks);
@@ -93,12 +97,13 @@ fn in_time(
     Ok(Alone::InTime(matrix, timed_cert(alloc, lines)))
 }
 
-/// Plans a frame of its own for each item: in the order of lowest-priority-first assignment, with the least busy periods
-/// and starts that show that each frame passes, exactly where some order has each frame pass; by item where none has. The
-/// only error is want of memory.
+/// Plans a frame of its own for each item: in the order of lowest-priority-first assignment, with the least
+/// busy periods and starts that show that each frame passes, exactly where some order has each frame pass; by
+/// item where none has. The only error is want of memory.
 pub fn plan_alone(alloc: Global, problem: &Problem) -> Result<Alone, Memory>
     ensures exact { IfOk result (IsPlanAlone problem.now) }
-    ensures accepted { IfOk result (λ plan. Accepts (judged_alone problem.now plan) (verdict_alone problem.now plan)) }
+    ensures accepted { IfOk result (λ plan. Accepts (judged_alone problem.now plan)
+        (verdict_alone problem.now plan)) }
     ensures fits { IfOk result (λ plan. CertFits (cert_alone plan)) }
 {
     let labels = numbers_below(alloc, problem.items().len() as u32)?;

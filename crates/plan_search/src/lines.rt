@@ -12,8 +12,9 @@ use pack_model::{Chain, Memory};
 use response_test::least_queue;
 use std::alloc::Global;
 
-/// The line of the frame at `place`, which passes: its least busy period, and the least time at which each instance in
-/// it can start. `bit` is the time of a nominal bit. All times are in ticks. The only error is want of memory.
+/// The line of the frame at `place`, which passes: its least busy period, and the least time at which each
+/// instance in it can start. `bit` is the time of a nominal bit. All times are in ticks. The only error is
+/// want of memory.
 fn least_line(
     alloc: Global,
     frames: &[Timed],
@@ -39,8 +40,8 @@ fn least_line(
     })
 }
 
-/// The lines of all frames of an order in which each passes, from the highest priority to the lowest. The only error is
-/// want of memory.
+/// The lines of all frames of an order in which each passes, from the highest priority to the lowest. The
+/// only error is want of memory.
 pub(crate) fn least_lines(
     alloc: Global,
     frames: &[Timed],

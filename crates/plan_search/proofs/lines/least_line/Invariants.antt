@@ -6,5 +6,6 @@ use Rattle.plan_search.proofs.lines.least_line.Given as goal
 abbrev pub invariant-loop-instance : goal.invariant-loop-instance
 invariant-loop-instance l = record {
   count : length l.queue.items ≡ l.instance;
-  starts : (k d : ℕ) → k < l.instance → FrameLeastStart l.frames l.order l.place l.bit k (get_or l.queue.items k d);
+  starts : (k d : ℕ) → k < l.instance → FrameLeastStart l.frames l.order l.place l.bit k
+      (get_or l.queue.items k d);
 }

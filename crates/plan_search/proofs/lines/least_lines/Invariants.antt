@@ -8,6 +8,7 @@ use Rattle.plan_search.proofs.lines.least_lines.Given as goal
 abbrev pub invariant-loop-place : goal.invariant-loop-place
 invariant-loop-place l = record {
   count : length l.lines.items ≡ l.place;
-  each : (k : ℕ) (d : FrameLine) → k < l.place → IsLeastLine l.frames l.order l.bit k (get_or l.lines.items k d);
+  each : (k : ℕ) (d : FrameLine) → k < l.place → IsLeastLine l.frames l.order l.bit k
+      (get_or l.lines.items k d);
   room : All HasRoom l.lines.items;
 }
