@@ -23,7 +23,8 @@ fd_size_of-some bytes within = from_option (fd_size_of bytes) (λ missing. grind
   from_option (Some size) h = (size, refl)
 
 -- fewer bytes never need a greater size
-pub fd_size_of-rises : (fewer more size larger : ℕ) → fewer ≤ more → fd_size_of fewer ≡ Some size → fd_size_of more ≡ Some larger → size ≤ larger
+pub fd_size_of-rises : (fewer more size larger : ℕ) → fewer ≤ more → fd_size_of fewer ≡ Some size
+    → fd_size_of more ≡ Some larger → size ≤ larger
 fd_size_of-rises fewer more size larger h small large = grind (arith, nat_tests)
 
 -- what the table gives is the least size
@@ -31,7 +32,8 @@ pub IsFdSize-from_value : (bytes size : ℕ) → fd_size_of bytes ≡ Some size 
 IsFdSize-from_value bytes size h = record {
   listed = grind (arith, nat_tests);
   enough = grind (arith, nat_tests);
-  least = λ other listed enough. fd_size_of-rises bytes other size other enough h (fd_size_of-size other listed);
+  least =
+      λ other listed enough. fd_size_of-rises bytes other size other enough h (fd_size_of-size other listed);
 }
 
 -- the least size is what the table gives
