@@ -9,7 +9,7 @@ use Rattle.std.proofs.lemmas.Map.Steps.{length-le_from_distinct_below, le-length
 use Rattle.std.proofs.lemmas.List.{map-append, take_more, take_all, get_or_default}
 use Rattle.std.proofs.lemmas.List.Elements.{filter-append, All-nil, All-cons, All-head, All-tail, recursion_from_All}
 use Rattle.pack_model.specs.declared.item.Item.{Item}
-use Rattle.class_frame.specs.Grouping.{classes_of, class_of, IsGrouping, IsOrder}
+use Rattle.class_frame.specs.Grouping.{classes_of, class_of, AreFirstLabels, IsGrouping, IsOrder}
 
 -- one more pair
 pub zip-push : {X : Type 0} (labels : List ℕ) (xs : List X) (label : ℕ) (x : X) → length labels ≡ length xs → zip (labels ++ label ∷ []) (xs ++ x ∷ []) ≡ zip labels xs ++ (label, x) ∷ []
@@ -57,11 +57,27 @@ front_classes labels first (suc n) le =
     let here = first n (omega arith) in
     rw (← add-one n) (omega (arith, step, before, here))
 
+-- a grouping's labels are labels of the first items, all of them
+pub front_of : (items : List Item) (labels : List ℕ) → IsGrouping items labels → AreFirstLabels items labels
+front_of items labels grouping = record { within = omega (arith, grouping.each); by_first_use = grouping.by_first_use }
+
 -- there are at most as many classes as items
+pub front-le-length : (items : List Item) (labels : List ℕ) → AreFirstLabels items labels → classes_of labels ≤ length items
+front-le-length items labels front =
+    let all = front_classes labels front.by_first_use (length labels) (omega arith) in
+    omega (arith, ap classes_of (take_all (length labels) labels (omega arith)), front.within)
+
 pub classes_of-le-length : (items : List Item) (labels : List ℕ) → IsGrouping items labels → classes_of labels ≤ length items
-classes_of-le-length items labels grouping =
-    let all = front_classes labels grouping.by_first_use (length labels) (omega arith) in
-    omega (arith, ap classes_of (take_all (length labels) labels (omega arith)), grouping.each)
+classes_of-le-length items labels grouping = front-le-length items labels (front_of items labels grouping)
+
+-- classes are those of as many elements as there are labels
+pub class_of-take : {X : Type 0} (k : ℕ) (labels : List ℕ) (xs : List X) → class_of k labels (take (length labels) xs) ≡ class_of k labels xs
+class_of-take {X} k labels xs = ap (λ es. map (λ (e : ℕ × X). e.1) (filter (λ e. nat_eq e.0 k) es)) (zipped labels xs)
+  where
+    zipped : (ls : List ℕ) (ys : List X) → zip ls (take (length ls) ys) ≡ zip ls ys
+    zipped [] ys = refl
+    zipped (l ∷ ls) [] = refl
+    zipped (l ∷ ls) (y ∷ ys) = ap (λ es. (l, y) ∷ es) (zipped ls ys)
 
 -- the class of the first element and the others
 pub class_of-cons : {X : Type 0} (k label : ℕ) (labels : List ℕ) (x : X) (xs : List X) → class_of k (label ∷ labels) (x ∷ xs) ≡ cond (nat_eq label k) (x ∷ class_of k labels xs) (class_of k labels xs)

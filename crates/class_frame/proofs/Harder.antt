@@ -1,19 +1,20 @@
 -- More items make a frame harder, and its period divides the common period.
-use Rattle.std.proofs.Common.{◌≡◌, ℕ, ◌*◌, ◌%◌, ◌≤◌, List, [], ◌∷◌, ◌++◌, map, All, unwrap_or, ap, ◌∙◌, arith}
+use Rattle.std.proofs.Common.{◌≡◌, ℕ, ◌*◌, ◌%◌, ◌≤◌, List, [], ◌∷◌, ◌++◌, map, All, unwrap_or, length, length-append, ap, ◌∙◌, arith}
 use Rattle.std.proofs.Math.Nat.{mul-le-mul_left}
 use Rattle.std.proofs.lemmas.List.{map-append, length-map}
 use Rattle.std.proofs.lemmas.List.Elements.{All-head, All-tail, All-nil, All-cons, All-map}
 use Rattle.pack_model.specs.declared.item.Item.{Item}
 use Rattle.pack_model.specs.declared.signal.Signal.{Signal}
-use Rattle.pack_model.specs.Problem.{Parts, IsCommonPeriod, periods_of}
+use Rattle.pack_model.specs.Problem.{Parts, IsProblem, IsCommonPeriod, periods_of}
 use Rattle.frame_ticks.proofs.WorstLaws.{worst_ticks_of-rises}
 use Rattle.fd_length.proofs.Sizes.{fd_size_of-rises, fd_size_of-some}
 use Rattle.class_frame.specs.Frame.{least, greatest, bytes_of_items, signals_of_items, size_of_items, timed_of_items, period_of_items}
-use Rattle.class_frame.specs.Laws.{HasSignal, IsHarder}
+use Rattle.busy_period.specs.Harder.{IsHarder}
+use Rattle.class_frame.specs.Laws.{HasSignal}
 use Rattle.class_frame.proofs.Bytes.{bytes-front}
 use Rattle.class_frame.proofs.Folds.{least_more, greatest_more, least_has}
 use Rattle.class_frame.proofs.Joining.{signals-append}
-use Rattle.class_frame.proofs.Ranges.{signals_have}
+use Rattle.class_frame.proofs.Ranges.{frame_in_range, signals_have}
 
 -- a frame's size never shrinks as items join, up to 64 bytes
 pub size-front : (xs ys : List Item) → bytes_of_items (xs ++ ys) ≤ 64 → unwrap_or (size_of_items xs) 0 ≤ unwrap_or (size_of_items (xs ++ ys)) 0
@@ -40,8 +41,9 @@ greatest-front problem f xs ys =
     mul-le-mul_left problem.network.ticks_per_us (omega (arith, greatest_more (map f (signals_of_items problem xs)) (map f (signals_of_items problem ys)), ap greatest (figures-append problem f xs ys)))
 
 -- items with more items are a harder frame
-pub more_is_harder : (problem : Parts) (xs ys : List Item) → HasSignal problem xs → bytes_of_items (xs ++ ys) ≤ 64 → IsHarder (timed_of_items problem xs) (timed_of_items problem (xs ++ ys))
-more_is_harder problem xs ys some small = record {
+pub more_is_harder : (problem : Parts) (xs ys : List Item) → IsProblem problem → HasSignal problem xs → bytes_of_items (xs ++ ys) ≤ 64 → IsHarder (timed_of_items problem xs) (timed_of_items problem (xs ++ ys))
+more_is_harder problem xs ys stands some small = record {
+  some_period = (frame_in_range problem (xs ++ ys) stands (omega (arith, some, ap length (signals-append problem xs ys), length-append (signals_of_items problem xs) (signals_of_items problem ys)))).some_period;
   ticks = worst_ticks_of-rises problem.network (unwrap_or (size_of_items xs) 0) (unwrap_or (size_of_items (xs ++ ys)) 0) (size-front xs ys small);
   jitter = greatest-front problem (λ signal. signal.jitter_us) xs ys;
   period = least-front problem (λ signal. signal.period_us) xs ys some;

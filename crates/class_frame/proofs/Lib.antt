@@ -1,4 +1,5 @@
 pub mod Bytes
+pub mod ClassFrames
 pub mod Folds
 pub mod GroupingLaws
 mod GroupingValues

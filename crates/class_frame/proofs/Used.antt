@@ -8,10 +8,10 @@ use Rattle.pack_model.specs.declared.signal.Signal.{Signal}
 use Rattle.pack_model.specs.Problem.{Parts}
 use Rattle.pack_model.proofs.ItemFacts.{IsItemOf}
 use Rattle.class_frame.specs.Frame.{signals_of_items}
-use Rattle.class_frame.specs.Grouping.{classes_of, class_of, IsGrouping}
+use Rattle.class_frame.specs.Grouping.{classes_of, class_of, AreFirstLabels, IsGrouping}
 use Rattle.class_frame.specs.Laws.{HasSignal}
 use Rattle.class_frame.specs.Sums.{sums_of, IsSmall}
-use Rattle.class_frame.proofs.GroupingLaws.{All-class_of, class_of-some, length-class_of, used}
+use Rattle.class_frame.proofs.GroupingLaws.{All-class_of, class_of-some, front_of, length-class_of, used}
 use Rattle.class_frame.proofs.Small.{sums_of-small}
 
 -- an item of signals has a signal
@@ -25,11 +25,15 @@ items_have_signal problem [] some all = absurd (omega arith)
 items_have_signal problem (item ∷ items) some all =
     omega (arith, length-append (filter_map (slice_get problem.signals) item.members) (signals_of_items problem items), item_some problem.signals item (All-head (IsItemOf problem.signals) item items all))
 
--- each class of a grouping has a signal
+-- each class of labels of the first items has a signal
+pub front_has_signal : (problem : Parts) (items : List Item) (labels : List ℕ) (label : ℕ) → All (IsItemOf problem.signals) items → AreFirstLabels items labels → label < classes_of labels → HasSignal problem (class_of label labels items)
+front_has_signal problem items labels label all front low =
+    let (k, lt, at) = used labels front.by_first_use label low in
+    items_have_signal problem (class_of label labels items) (class_of-some label labels items k lt (omega (arith, lt, front.within)) at) (All-class_of (IsItemOf problem.signals) label labels items all)
+
+-- and so has each class of a grouping
 pub class_has_signal : (problem : Parts) (items : List Item) (labels : List ℕ) (label : ℕ) → All (IsItemOf problem.signals) items → IsGrouping items labels → label < classes_of labels → HasSignal problem (class_of label labels items)
-class_has_signal problem items labels label all grouping low =
-    let (k, lt, at) = used labels grouping.by_first_use label low in
-    items_have_signal problem (class_of label labels items) (class_of-some label labels items k lt (omega (arith, lt, grouping.each)) at) (All-class_of (IsItemOf problem.signals) label labels items all)
+class_has_signal problem items labels label all grouping low = front_has_signal problem items labels label all (front_of items labels grouping) low
 
 -- the sums of each class of few items are small
 pub class_is_small : (problem : Parts) (items : List Item) (labels : List ℕ) (label : ℕ) → length items ≤ 128 → All (λ item. item.bits ≤ 512) items → IsSmall (sums_of problem (class_of label labels items))

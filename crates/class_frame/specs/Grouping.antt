@@ -12,6 +12,11 @@ classes_of (label ∷ labels) = max (label + 1) (classes_of labels)
 abbrev pub class_of : {X : Type 0} → ℕ → List ℕ → List X → List X
 class_of label labels items = map (λ e. e.1) (filter (λ e. e.0 == label) (zip labels items))
 
+-- labels of the first items, numbered by first use: each is at most the number of classes of those before it
+pub record AreFirstLabels (items : List Item) (labels : List ℕ) : Type 0 where
+  pub within : length labels ≤ length items
+  pub by_first_use : (k : ℕ) → k < length labels → slice_index labels k ≤ classes_of (take k labels)
+
 -- one label an item, and each is at most the number of classes of those before it
 pub record IsGrouping (items : List Item) (labels : List ℕ) : Type 0 where
   pub each : length labels ≡ length items

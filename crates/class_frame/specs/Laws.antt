@@ -2,24 +2,18 @@
 use Rattle.std.specs.Prelude.{◌≤◌, ◌≡◌, ◌%◌, ◌++◌, List, length}
 use Rattle.pack_model.specs.declared.item.Item.{Item}
 use Rattle.pack_model.specs.Problem.{Parts, IsProblem, IsCommonPeriod, periods_of}
-use Rattle.busy_period.specs.declared.timed.Timed.{Timed}
 use Rattle.busy_period.specs.Timed.{IsInRange}
+use Rattle.busy_period.specs.Harder.{IsHarder}
 use Rattle.class_frame.specs.Frame.{signals_of_items, bytes_of_items, ticks_of_items, period_of_items, timed_of_items}
 
 -- some signal is of the items
 abbrev pub HasSignal : Parts → List Item → Type 0
 HasSignal problem items = 1 ≤ length (signals_of_items problem items)
 
--- a frame takes no fewer ticks and has no less jitter than another, and neither a greater period nor a greater deadline
-pub record IsHarder (frame harder : Timed) : Type 0 where
-  pub ticks : frame.ticks ≤ harder.ticks
-  pub jitter : frame.jitter ≤ harder.jitter
-  pub period : harder.period ≤ frame.period
-  pub deadline : harder.deadline ≤ frame.deadline
-
 -- more items, within 64 bytes, are a harder frame
 abbrev pub MoreIsHarder : Type 0
-MoreIsHarder = (problem : Parts) (items more : List Item) → HasSignal problem items → bytes_of_items (items ++ more) ≤ 64
+MoreIsHarder = (problem : Parts) (items more : List Item) → IsProblem problem → HasSignal problem items
+    → bytes_of_items (items ++ more) ≤ 64
     → IsHarder (timed_of_items problem items) (timed_of_items problem (items ++ more))
 
 -- a frame's period divides the common period
