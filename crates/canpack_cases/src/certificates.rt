@@ -1,5 +1,5 @@
 // Certificates of kind `timed`, and texts that are no certificate.
-use crate::runs::{CHECK, MATRIX, NETWORK, SIGNALS, folder_of, status_of};
+use crate::runs::{CHECK, MATRIX, NETWORK, SIGNALS, TWO_FRAMES, folder_of, status_of};
 use pack_base::MemSink;
 use std::test::Fail;
 
@@ -10,10 +10,6 @@ const OVERLAPPING: &[u8] =
 /// A start with a leading zero.
 const BAD_ROW: &[u8] =
     b"id,sender,size,ticks,header,pdu,at,signal,start,bits\n256,ECU1,2,7400,none,,0,S1,0,8\n256,ECU1,2,7400,none,,0,S2,08,8\n";
-
-/// Each signal in a frame of its own, as `plan` writes them.
-const TWO_FRAMES: &[u8] =
-    b"id,sender,size,ticks,header,pdu,at,signal,start,bits\n256,ECU1,1,7000,none,,0,S1,0,8\n257,ECU1,1,7000,none,,0,S2,0,8\n";
 
 /// MATRIX and CERT of the two signals, with the status and what is said.
 const CERTIFICATES: [(&[u8], &[u8], u8, &[u8]); 21] = [
@@ -74,7 +70,7 @@ const CERTIFICATES: [(&[u8], &[u8], u8, &[u8]); 21] = [
         4,
         b"refused CERT cut\n",
     ),
-    // Trees are not judged yet: the matrix is, then the timing, and then the tree is rejected.
+    // The matrix is judged first, then the timing, and then the tree.
     (
         MATRIX,
         b"canpack certificate 1\nkind none\nmain\no\nend\n",
@@ -89,7 +85,7 @@ const CERTIFICATES: [(&[u8], &[u8], u8, &[u8]); 21] = [
     ),
     (
         MATRIX,
-        b"canpack certificate 1\nkind best\nframe 7400 0\nmain\ni 1\ni 2\nb\nb\nend\n",
+        b"canpack certificate 1\nkind best\nframe 7400 0\nmain\nb\nend\n",
         5,
         b"rejected tree\n",
     ),

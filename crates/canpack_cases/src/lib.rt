@@ -20,4 +20,6 @@ mod runs;
 #[cfg(test)]
 mod texts;
 #[cfg(test)]
+mod trees;
+#[cfg(test)]
 mod words;

@@ -25,6 +25,13 @@ pub const SIGNALS: &[u8] =
 pub const MATRIX: &[u8] =
     b"id,sender,size,ticks,header,pdu,at,signal,start,bits\n256,ECU1,2,7400,none,,0,S1,0,8\n256,ECU1,2,7400,none,,0,S2,8,8\n";
 
+/// Each signal in a frame of its own.
+pub const TWO_FRAMES: &[u8] =
+    b"id,sender,size,ticks,header,pdu,at,signal,start,bits\n256,ECU1,1,7000,none,,0,S1,0,8\n257,ECU1,1,7000,none,,0,S2,0,8\n";
+
+/// A matrix without rows.
+pub const NO_ROWS: &[u8] = b"id,sender,size,ticks,header,pdu,at,signal,start,bits\n";
+
 pub const CERT: &[u8] = b"canpack certificate 1\nkind placed\nend\n";
 
 /// Two signals in one frame, which `check` accepts.

@@ -2,9 +2,10 @@
 use Rattle.std.proofs.Common.{◌≡◌, ◌≢◌, ◌∙◌, ◌⊎◌, ℕ, List, Option, None, Some, Result, Ok, Err, IsNone, IsOk, IsOkAnd, IsSome, IsSomeAnd, String, ap, arith, inl, inr, option_map, refl, subst, sym, is_some, true≢false, []}
 use Rattle.std.specs.Result.{result_err}
 use Rattle.std.specs.declared.alloc.Global.{Global}
-use Rattle.pack_base.specs.Outside.{Files}
+use Rattle.pack_base.specs.Outside.{Files, and_said}
 use Rattle.bandwidth_bound.specs.declared.verdict.Verdict.{Verdict}
 use Rattle.canpack_top.specs.declared.command.Command.{Command}
+use Rattle.canpack_top.specs.declared.command.Command.TheVariants as command
 use Rattle.canpack_top.specs.declared.ending.Status.{Status}
 use Rattle.canpack_top.specs.declared.ending.Status.TheVariants as status
 use Rattle.canpack_top.specs.declared.refusal.Refusal.{Refusal}
@@ -13,7 +14,7 @@ use Rattle.bandwidth_bound.specs.declared.verdict.Part.TheVariants as part
 use Rattle.canpack_top.specs.declared.verdict.Found.{Found}
 use Rattle.canpack_top.specs.declared.verdict.Found.TheVariants as found
 use Rattle.canpack_top.specs.Answer.{Answered, IsAnswer, IsAnswered, IsExcused, IsRefused}
-use Rattle.canpack_top.specs.Check.{Accepts, HasAll, HasNoneLate, HasOnePlace, HasPassing, Rejects, check_answer, check_meaning, texts_at}
+use Rattle.canpack_top.specs.Check.{Accepts, HasAll, HasNoneLate, HasOnePlace, HasPassing, IsAnswerOf, Rejects, check_answer, check_meaning, texts_at}
 use Rattle.canpack_top.specs.Command.{command_of, names_in}
 use Rattle.canpack_top.specs.Commands.{IsCheck, IsPlan, OfCommand, meaning_of}
 use Rattle.canpack_top.specs.Ending.{number_of}
@@ -21,9 +22,11 @@ use Rattle.canpack_top.specs.Files.{problem_at}
 use Rattle.canpack_top.specs.Line.{refused_line}
 use Rattle.canpack_top.specs.Meaning.{Answer, Ends, Finishes, Meaning}
 use Rattle.canpack_top.specs.Plan.{IsPlanned, plan_meaning}
-use Rattle.canpack_top.specs.Verdict.{Finds, IsAccepted, IsRejected}
+use Rattle.canpack_top.specs.Headline.{Headline, Promises}
+use Rattle.canpack_top.specs.Verdict.{Finds, IsAccepted, IsRejected, verdict_line}
 use Rattle.bandwidth_bound.specs.Rule.{Judged}
 use Rattle.bandwidth_bound.specs.Follows.{Holds}
+use Rattle.canpack_top.proofs.Promised.{promised}
 use Rattle.canpack_top.proofs.Runs.{ok_and}
 
 -- a fact of the command that the words are
@@ -78,6 +81,20 @@ rejected_of : (answer : Answer) (judged : Judged) (what : Found) → answer.stat
     → answer ≡ check_answer judged.problem.hyper what → IsRejected judged
 rejected_of answer judged (found.Shown shown) done finds is = let h : status.Done ≡ status.Rejected = sym (ap (λ a. a.status) is) ∙ done in cc
 rejected_of answer judged (found.Rejected failed) done finds is = (failed, finds)
+
+-- the line of a verdict that was said, with what the verdict promises
+promised_line : (answer : Answer) (judged : Judged) (said_before said_now : Option (List ℕ)) (what : Found) → answer.status ≡ status.Done
+    → Finds what judged → answer ≡ check_answer judged.problem.hyper what → said_now ≡ and_said said_before answer.line → Holds judged
+    → (shown : Verdict) × (said_now ≡ and_said said_before (verdict_line judged.problem.hyper shown)) × Promises shown judged
+promised_line answer judged said_before said_now (found.Shown shown) done finds is said holds =
+    (shown, said ∙ ap (λ a. and_said said_before a.line) is, promised judged shown finds holds)
+promised_line answer judged said_before said_now (found.Rejected failed) done finds is said holds =
+    let h : status.Rejected ≡ status.Done = sym (ap (λ a. a.status) is) ∙ done in cc
+
+-- two facts of what there is give a third
+ok_and_both : {X E : Type 0} (r : Result X E) (P Q R : X → Type 0) → ((x : X) → P x → Q x → R x) → IsOkAnd r P → IsOkAnd r Q → IsOkAnd r R
+ok_and_both (Ok x) P Q R both p q = both x p q
+ok_and_both (Err e) P Q R both p q = p
 
 -- two facts of what there is that don't go together
 ok_not_both : {X E : Type 0} (r : Result X E) (P Q : X → Type 0) → ((x : X) → P x → Q x → ⊥) → IsOkAnd r P → IsOkAnd r Q → ⊥
@@ -181,6 +198,17 @@ module _ {words : List (String Global)} {before now : Files} {said_before said_n
 
   pub check_never_late : number ≡ 0 → IsSome before → IsCheck words → HasNoneLate (names_in words) before
   check_never_late zero told check = ok_and (texts_at (names_in words) before) Holds _ (λ judged all. all.never_late) (check_all zero told check)
+
+  -- the line of the verdict was said then, and what it promises holds
+  pub check_headline : number ≡ 0 → IsSome before → IsCheck words → Headline (names_in words) before said_before said_now
+  check_headline zero told check =
+      let all : Answered number words before now said_before said_now = called.answered (inl zero) in
+      let has_status : all.0.status ≡ status.Done = done_number all.0.status (sym zero ∙ all.1) in
+      let own : Finishes (check_meaning (names_in words)) before now all.0 =
+          (own_of words before now (command.CheckFiles check.0) status.Done all.0 check.1 has_status (λ h. cc) all.2).finishes in
+      ok_and_both (texts_at (names_in words) before) (λ judged. IsAnswerOf all.0 judged) Holds _
+      (λ judged answers holds. promised_line all.0 judged said_before said_now answers.0 has_status answers.1 answers.2 all.3 holds)
+      (own.answers told) (own.shows told has_status)
 
   -- `check` rejects at status 5
   pub check_rejected : number ≡ 5 → IsSome before → IsCheck words → Rejects (names_in words) before

@@ -5,5 +5,6 @@ pub mod ReadTwice
 pub mod Accepted
 pub mod Runs
 pub mod Said
+pub mod Promised
 pub mod CommandLaws
 pub mod SteadyLaws

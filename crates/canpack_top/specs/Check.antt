@@ -17,9 +17,11 @@ use Rattle.canpack_top.specs.Files.{cert_at, matrix_at, problem_at}
 use Rattle.canpack_top.specs.Line.{refused_line}
 use Rattle.canpack_top.specs.Meaning.{Answer, Meaning}
 use Rattle.canpack_top.specs.Reads.{check_names}
-use Rattle.canpack_top.specs.Verdict.{Finds, FramesNeverLate, FramesPass, IsAccepted, IsRejected, found_line}
+use Rattle.canpack_top.specs.Verdict.{Finds, IsAccepted, IsRejected, found_line}
 use Rattle.bandwidth_bound.specs.Rule.{Judged}
-use Rattle.bandwidth_bound.specs.Follows.{Holds}
+use Rattle.bandwidth_bound.specs.Bus.{NeverLate}
+use Rattle.bandwidth_bound.specs.Follows.{HasMatrix, HasTiming, Holds}
+use Rattle.bandwidth_bound.specs.Timing.{AllPass}
 
 -- what the four files that are named say, or the first refusal
 unfoldable pub texts_at : Names → Files → Result Judged Refusal
@@ -37,18 +39,20 @@ Accepts names files = IsOkAnd (texts_at names files) IsAccepted
 abbrev pub Rejects : Names → Files → Type 0
 Rejects names files = IsOkAnd (texts_at names files) IsRejected
 
--- the texts stand, and each signal has one place of its own
+-- the texts stand, and where the certificate's kind speaks of a matrix, each signal has one place of its own
 abbrev pub HasOnePlace : Names → Files → Type 0
-HasOnePlace names files = IsOkAnd (texts_at names files) (λ judged. OnePlace judged.problem judged.matrix)
+HasOnePlace names files = IsOkAnd (texts_at names files)
+    (λ judged. HasMatrix judged.cert.kind judged.matrix → OnePlace judged.problem judged.matrix)
 
--- the texts stand, and where the certificate is of kind `timed`, each frame passes the written test
+-- the texts stand, and where the kind speaks of times, each frame passes the written test
 abbrev pub HasPassing : Names → Files → Type 0
-HasPassing names files = IsOkAnd (texts_at names files) FramesPass
+HasPassing names files = IsOkAnd (texts_at names files)
+    (λ judged. HasTiming judged.cert.kind judged.matrix → AllPass judged.problem judged.matrix)
 
--- the texts stand, and where the certificate is of kind `timed`, no release is late in any run that stands over the
--- matrix's frames
+-- the texts stand, and where the kind speaks of times, no release is late in any run that stands over the matrix's frames
 abbrev pub HasNoneLate : Names → Files → Type 0
-HasNoneLate names files = IsOkAnd (texts_at names files) FramesNeverLate
+HasNoneLate names files = IsOkAnd (texts_at names files)
+    (λ judged. HasTiming judged.cert.kind judged.matrix → NeverLate judged.problem judged.matrix)
 
 -- the texts stand, and all that follows from the acceptance rule holds
 abbrev pub HasAll : Names → Files → Type 0

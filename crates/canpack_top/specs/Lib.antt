@@ -8,6 +8,7 @@ pub mod Write
 pub mod Meaning
 pub mod Verdict
 pub mod Check
+pub mod Headline
 pub mod Plan
 pub mod Commands
 pub mod Answer

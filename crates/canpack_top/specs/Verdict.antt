@@ -1,14 +1,11 @@
 -- What the acceptance rule says of the problem, the matrix and the certificate of texts that stand, and its lines.
 use Rattle.std.specs.Prelude.{◌≡◌, ⊤, ℕ, ◌*◌, List, ◌++◌, codes, decimal, Option, None, Some, Result, Ok, Err}
-use Rattle.cert_text.specs.declared.parts.Kind.TheVariants.{KindTimed}
 use Rattle.bandwidth_bound.specs.declared.verdict.Part.{Part}
 use Rattle.bandwidth_bound.specs.declared.verdict.Part.TheVariants as part
 use Rattle.bandwidth_bound.specs.declared.verdict.Verdict.{Verdict}
 use Rattle.bandwidth_bound.specs.declared.verdict.Verdict.TheVariants as verdict
-use Rattle.bandwidth_bound.specs.Bus.{NeverLate}
 use Rattle.bandwidth_bound.specs.Rule.{FailsFirst, Judged}
 use Rattle.bandwidth_bound.specs.Rule as rule
-use Rattle.bandwidth_bound.specs.Timing.{AllPass}
 use Rattle.cert_check.specs.declared.fault.CheckFault.{CheckFault}
 use Rattle.cert_check.specs.declared.fault.CheckFault.TheVariants as fault
 use Rattle.canpack_top.specs.declared.verdict.Found.{Found}
@@ -35,14 +32,6 @@ IsAccepted judged = (shown : Verdict) × Finds (found.Shown shown) judged
 -- some part of the acceptance rule is the first that doesn't hold
 abbrev pub IsRejected : Judged → Type 0
 IsRejected judged = (failed : Part) × Finds (found.Rejected failed) judged
-
--- where the certificate is of kind `timed`, each frame passes the written test
-abbrev pub FramesPass : Judged → Type 0
-FramesPass judged = judged.cert.kind ≡ KindTimed → AllPass judged.problem judged.matrix
-
--- where the certificate is of kind `timed`, no release is late in any run that stands over the matrix's frames
-abbrev pub FramesNeverLate : Judged → Type 0
-FramesNeverLate judged = judged.cert.kind ≡ KindTimed → NeverLate judged.problem judged.matrix
 
 -- a load or a bound, over what it is counted in, and LF
 abbrev pub fraction : ℕ → ℕ → List ℕ

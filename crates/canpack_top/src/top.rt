@@ -16,6 +16,7 @@ ghost use Rattle.canpack_top.specs.Check.{Accepts, HasNoneLate, HasOnePlace, Has
 ghost use Rattle.canpack_top.specs.Command.{command_of, names_in};
 ghost use Rattle.canpack_top.specs.Commands.{IsCheck, IsPlan, OfCommand};
 ghost use Rattle.canpack_top.specs.Files.{problem_at};
+ghost use Rattle.canpack_top.specs.Headline.{Headline};
 ghost use Rattle.canpack_top.specs.Line.{usage_line};
 ghost use Rattle.canpack_top.specs.Plan.{IsPlanned};
 ghost use Rattle.canpack_top.specs.Reads.{SomeRose};
@@ -120,6 +121,8 @@ pub fn canpack<R: Threads, F: Folder, O: Sink, G: Gate + Sync>(
     // `check` accepts exactly where the acceptance rule holds, and changes no file.
     ensures accepted { result ≡ 0 → IsSome (F.files folder.old) → IsCheck words.now
         → Accepts (names_in words.now) (F.files folder.old) }
+    ensures headline { result ≡ 0 → IsSome (F.files folder.old) → IsCheck words.now
+        → Headline (names_in words.now) (F.files folder.old) (O.said out.old) (O.said out.new) }
     ensures one_place { result ≡ 0 → IsSome (F.files folder.old) → IsCheck words.now
         → HasOnePlace (names_in words.now) (F.files folder.old) }
     ensures passes { result ≡ 0 → IsSome (F.files folder.old) → IsCheck words.now

@@ -2,6 +2,7 @@ use Rattle.canpack_top.proofs.CommandLaws.{
   Called,
   check_accepted,
   check_accepts,
+  check_headline,
   check_idle,
   check_never_late,
   check_one_place,
@@ -36,6 +37,13 @@ returns-clause-accepted g c =
     (g.O.Sink.said c.args.out.now) (g.O.Sink.said c.status_of.new.out) c.status_of.result =
     record { statuses = c.status_of.ensures.statuses; usage = λ one. (c.status_of.ensures.usage one).0; answered = c.status_of.ensures.answered } in
     check_accepted called
+
+pub returns-clause-headline : goal.returns-clause-headline
+returns-clause-headline g c =
+    let called : Called c.args.words.now (g.F.Folder.files c.args.folder.now) (g.F.Folder.files c.status_of.new.folder)
+    (g.O.Sink.said c.args.out.now) (g.O.Sink.said c.status_of.new.out) c.status_of.result =
+    record { statuses = c.status_of.ensures.statuses; usage = λ one. (c.status_of.ensures.usage one).0; answered = c.status_of.ensures.answered } in
+    check_headline called
 
 pub returns-clause-one_place : goal.returns-clause-one_place
 returns-clause-one_place g c =
