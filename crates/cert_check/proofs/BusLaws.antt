@@ -19,8 +19,9 @@ use Rattle.response_test.proofs.Renumbered.{shown_renumbered}
 use Rattle.class_frame.specs.Classes.{frames_of_classes}
 use Rattle.class_frame.specs.Frame.{bytes_of_items, size_of_items, timed_of_items}
 use Rattle.class_frame.specs.Grouping.{IsGrouping, IsOrder, class_of, classes_of}
-use Rattle.class_frame.proofs.GroupingLaws.{length-order}
+use Rattle.class_frame.proofs.GroupingLaws.{front_of, length-order}
 use Rattle.class_frame.proofs.Ranges.{frame_in_range}
+use Rattle.class_frame.proofs.ClassFrames.{few_classes}
 use Rattle.class_frame.proofs.Used.{class_has_signal}
 use Rattle.matrix_rows.specs.declared.matrix.MatrixRow.{MatrixRow}
 use Rattle.matrix_text.specs.Frames.{frame_identifiers, grouping_of, identifiers, label_in, order_of}
@@ -32,7 +33,6 @@ use Rattle.bus_run.specs.Late.{IsByNumber, IsShownAt}
 use Rattle.bus_run.proofs.BreakLaws.{none_late}
 use Rattle.bandwidth_bound.specs.Bus.{NeverLate, ascending_identifiers, bus_frame_of, bus_frames_of, items_of_frame}
 use Rattle.cert_check.specs.Timing.{ClassesShown}
-use Rattle.cert_check.proofs.Stages.{few_classes}
 
 -- numbers in a row ascend
 range_ascends : (n : ℕ) → AllPairs (λ earlier later. earlier < later) (range_with_len 0 n)
@@ -107,7 +107,7 @@ module _ (problem : Parts) (rows : List MatrixRow) (stands : IsProblem problem) 
   -- they are the frames of a bus
   on_bus : AreBusFrames (bus_frames_of problem rows)
   on_bus = record {
-    few = omega (arith, count, length-order (grouping_of problem rows) (order_of problem rows) named, few_classes problem (grouping_of problem rows) stands grouping);
+    few = omega (arith, count, length-order (grouping_of problem rows) (order_of problem rows) named, few_classes problem (grouping_of problem rows) stands (front_of problem.items (grouping_of problem rows) grouping));
     ascending = λ earlier later before inside.
         let long : length (bus_frames_of problem rows) ≡ length (ascending_identifiers problem rows) = length-map (ascending_identifiers problem rows) frame_of in
         omega (arith, id_at earlier (omega arith), id_at later inside, ids_ascend earlier later 0 before (omega (arith, long)));

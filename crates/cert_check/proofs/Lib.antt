@@ -1,4 +1,7 @@
 pub mod BusLaws
+pub mod Found
 pub mod KindLaws
 pub mod Lines
-pub mod Stages
+pub mod Loads
+pub mod Nexts
+pub mod Walks

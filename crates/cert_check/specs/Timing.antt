@@ -1,20 +1,12 @@
 -- What frame lines show of a grouping and an order of its classes.
-use Rattle.std.specs.Prelude.{◌≡◌, ◌<◌, ⊤, ℕ, List, length, slice_index_or, nat_eq, All, Result, Ok, Err}
-use Rattle.std.specs.List.{IsDistinct}
+use Rattle.std.specs.Prelude.{◌≡◌, ◌<◌, ⊤, ℕ, List, length, slice_index_or, Result, Ok, Err}
 use Rattle.pack_model.specs.Problem.{Parts}
-use Rattle.class_frame.specs.Grouping.{classes_of}
 use Rattle.busy_period.specs.declared.timed.Timed.{Timed}
 use Rattle.response_test.specs.Frame.{FramePasses, IsShown}
 use Rattle.cert_text.specs.declared.parts.FrameLine.{FrameLine}
 use Rattle.cert_check.specs.declared.fault.CheckFault.{CheckFault}
 use Rattle.cert_check.specs.declared.fault.CheckFault.TheVariants as fault
 use Rattle.class_frame.specs.Classes.{frames_of_classes, load_of}
-
--- the order names as many different labels as there are classes
-pub record AreOrdered (labels order : List ℕ) : Type 0 where
-  pub each : length order ≡ classes_of labels
-  pub below : All (λ label. label < classes_of labels) order
-  pub distinct : IsDistinct nat_eq order
 
 -- there is one line for each place of the order, and each shows that its frame passes
 pub record AreShown (frames : List Timed) (order : List ℕ) (bit : ℕ) (lines : List FrameLine) : Type 0 where

@@ -6,11 +6,13 @@
 
 mod check;
 mod fault;
-mod frames;
 mod kinds;
-mod load;
 mod timing;
+mod tree;
+mod trees;
+mod walk;
 
 pub use bandwidth_bound::Verdict;
 pub use check::check_cert;
 pub use fault::CheckFault;
+pub use walk::{Aim, Walk};

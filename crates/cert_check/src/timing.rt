@@ -3,14 +3,13 @@ ghost use Rattle.std.specs.Prelude.{◌<◌, ℕ, ◌↔◌, IsTrue, OnOk, lengt
 ghost use Rattle.busy_period.specs.Stage.{IsStage};
 ghost use Rattle.response_test.specs.Queueing.{IsBit};
 ghost use Rattle.response_test.specs.Frame.{FramePasses};
-ghost use Rattle.class_frame.specs.Grouping.{IsGrouping};
-ghost use Rattle.cert_check.specs.Timing.{AreOrdered, AreShown, ClassesPass, IsTimed};
+ghost use Rattle.class_frame.specs.Grouping.{IsGrouping, IsOrder};
+ghost use Rattle.cert_check.specs.Timing.{AreShown, ClassesPass, IsTimed};
 
 use crate::fault::CheckFault;
-use crate::frames::class_frames;
-use crate::load::load_of_frames;
 use busy_period::Timed;
 use cert_text::FrameLine;
+use class_frame::{class_frames, load_of_frames};
 use pack_model::Problem;
 use response_test::shown;
 use std::alloc::Global;
@@ -45,7 +44,7 @@ pub(crate) fn judge_timing(
     lines: &[FrameLine],
 ) -> Result<u128, CheckFault>
     requires grouping { IsGrouping problem.now.items labels.now }
-    requires order { AreOrdered labels.now order.now }
+    requires order { IsOrder labels.now order.now }
     ensures found { IsTimed problem.now labels.now order.now lines.now result }
     ensures passes { OnOk result (ClassesPass problem.now labels.now order.now) }
 {

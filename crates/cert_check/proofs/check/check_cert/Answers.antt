@@ -1,10 +1,9 @@
-use Rattle.std.proofs.Common.{◌≡◌, ◌<◌, ◌++◌, ℕ, List, All, length, take, ap, sym, ◌∙◌, subst, arith, nat_eq, length-take-le, true, false, Result, Ok, Err}
+use Rattle.std.proofs.Common.{◌≡◌, ◌<◌, ◌++◌, ℕ, List, All, length, take, ap, sym, ◌∙◌, subst, arith, length-take-le, true, false, Result, Ok, Err}
 use Rattle.std.specs.Prelude.{OnOk}
-use Rattle.std.specs.List.{IsDistinct}
 use Rattle.std.proofs.lemmas.List.{take-append-le, take_all}
 use Rattle.pack_model.specs.Problem.{Parts}
 use Rattle.class_frame.specs.Grouping.{IsGrouping, IsOrder}
-use Rattle.class_frame.proofs.GroupingLaws.{classes_of-le-length, distinct-order, length-order}
+use Rattle.class_frame.proofs.GroupingLaws.{classes_of-le-length}
 use Rattle.matrix_rows.specs.declared.matrix.MatrixRow.{MatrixRow}
 use Rattle.matrix_text.specs.Frames.{grouping_of, order_of}
 use Rattle.bandwidth_bound.specs.declared.verdict.Verdict.{Verdict}
@@ -12,7 +11,7 @@ use Rattle.bandwidth_bound.specs.Follows.{Holds}
 use Rattle.cert_check.specs.declared.fault.CheckFault.{CheckFault}
 use Rattle.cert_check.specs.Accept.{IsFound, judged_of}
 use Rattle.cert_check.specs.Kinds.{answer_with_load, is_kind_placed, is_to_be_placed}
-use Rattle.cert_check.specs.Timing.{AreOrdered, ClassesPass, ClassesShown, IsTimed}
+use Rattle.cert_check.specs.Timing.{ClassesPass, ClassesShown, IsTimed}
 use Rattle.cert_check.proofs.BusLaws.{shown_never_late}
 use Rattle.cert_check.proofs.KindLaws.{found_with_load, fault_of_lines}
 use Rattle.cert_check.proofs.check.check_cert.Goals as goal
@@ -20,10 +19,6 @@ use Rattle.cert_check.proofs.check.check_cert.Goals as goal
 -- a list that was written whole
 whole : (n : ℕ) (xs ys : List ℕ) → length xs ≡ n → take n (xs ++ ys) ≡ xs
 whole n xs ys long = take-append-le n xs ys (omega arith) ∙ take_all n xs (omega arith)
-
--- an order of classes is one of the stages
-ordered : (labels order : List ℕ) → IsOrder labels order → AreOrdered labels order
-ordered labels order named = record { each = length-order labels order named; below = named.only; distinct = distinct-order labels order named }
 
 pub slice_bounds-judge_timing-end : goal.slice_bounds-judge_timing-end
 slice_bounds-judge_timing-end c =
@@ -39,8 +34,8 @@ pub judge_timing-requires-clause-order : goal.judge_timing-requires-clause-order
 judge_timing-requires-clause-order c =
     let labels : c.deref.result.now ≡ c.labels_of.new.labels = c.deref.ensures.value ∙ whole _ _ _ (omega (arith, c.labels_of.auto.labels, c.deref_mut.ensures.len)) in
     let order : c.deref-2.result.now ≡ c.labels_of.new.order = c.deref-2.ensures.value ∙ whole _ _ _ (omega (arith, c.labels_of.auto.order, c.deref_mut-2.ensures.len)) in
-    subst (λ l. AreOrdered l (take c.in-Some.frames c.deref-2.result.now)) (sym labels)
-    (subst (λ l. AreOrdered c.labels_of.new.labels (take c.in-Some.frames l)) (sym order) (ordered c.labels_of.new.labels (take c.in-Some.frames c.labels_of.new.order) c.in-Some.ensures.named))
+    subst (λ l. IsOrder l (take c.in-Some.frames c.deref-2.result.now)) (sym labels)
+    (subst (λ l. IsOrder c.labels_of.new.labels (take c.in-Some.frames l)) (sym order) c.in-Some.ensures.named)
 
 pub returns-in-Ok-clause-found : goal.returns-in-Ok-clause-found
 returns-in-Ok-clause-found c =
