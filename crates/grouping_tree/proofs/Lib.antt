@@ -4,3 +4,4 @@ pub mod Options
 pub mod Puts
 pub mod Steps
 pub mod Used
+pub mod Walks

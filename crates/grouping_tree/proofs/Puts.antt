@@ -1,14 +1,20 @@
 -- Each option keeps the grouping legal, and the first unused label is one where the next item can be a frame.
-use Rattle.std.proofs.Common.{◌≡◌, ℕ, zero, suc, ◌+◌, ◌<◌, ◌≤◌, ◌⊎◌, inl, inr, Bool, true, false, cond, List, [], ◌∷◌, ◌++◌, length, drop, take, get_or, filter, count_by, nat_eq, All, refl, sym, ap, subst, ◌∙◌, arith, length-append, append-nil}
-use Rattle.std.specs.List.{range_with_len}
+use Rattle.std.proofs.Common.{◌≡◌, ◌||◌, if◌then◌else◌, is_some, sum_by, Option, None, Some, ℕ, zero, suc, ◌+◌, ◌<◌, ◌≤◌, ◌⊎◌, inl, inr, Bool, true, false, cond, List, [], ◌∷◌, ◌++◌, length, drop, take, get_or, filter, count_by, nat_eq, All, refl, sym, ap, subst, ◌∙◌, arith, length-append, append-nil}
+use Rattle.std.specs.List.{cons_option, range_with_len}
 use Rattle.std.proofs.lemmas.Bool.{eqb-true, eq-eqb, ne_eqb, lt-ltb, le-ltb, cases_lt}
 use Rattle.std.proofs.lemmas.List.{take-append-le}
 use Rattle.std.proofs.lemmas.List.Elements.{All-nil, All-cons, All-head, All-tail}
+use Rattle.std.specs.Int.{div_ceil}
+use Rattle.std.proofs.lemmas.Grind.{div_ceil_times}
+use Rattle.std.proofs.lemmas.List.Sums.{sum_by-cons}
 use Rattle.pack_model.specs.declared.item.Item.{Item}
+use Rattle.container_pdu.specs.Bytes.{bytes_of_parts}
+use Rattle.class_frame.specs.Frame.{bytes_of_item, bytes_of_items}
 use Rattle.class_frame.specs.Grouping.{class_of, classes_of}
 use Rattle.class_frame.specs.Legal.{ClassStands}
 use Rattle.grouping_tree.specs.Partial.{IsPartial, keeps_legal, options_of}
 use Rattle.grouping_tree.proofs.Classes.{class-append, get_or-front}
+use Rattle.grouping_tree.proofs.Steps.{element}
 use Rattle.grouping_tree.proofs.Options.{is_class-from, is_class-to, next-once, get_or-next, take-front}
 
 class-other : {X : Type 0} (k l : ℕ) (xs : List X) → nat_eq l k ≡ false → class_of k (l ∷ []) xs ≡ []
@@ -79,3 +85,28 @@ new-option items p d h room alone =
     class-append c p (c ∷ []) items ∙ ap (λ xs. xs ++ class_of c (c ∷ []) (drop (length p) items)) (class-unused p items c (omega arith)) ∙ class-first c items (length p) d room
     in
     next-once items p c (put-legal items p c h room (omega arith) (is_class-from (class_of c (p ++ c ∷ []) items) (subst ClassStands (sym same) alone)))
+
+-- the bytes of one item
+one_item_bytes : (item : Item) → item.bits ≤ 512 → bytes_of_items (item ∷ []) ≤ 64
+one_item_bytes item few = by item.pdu
+  where
+    by : (o : Option ℕ) → (if is_some o || false then bytes_of_parts (cons_option o []) (bytes_of_item item ∷ []) else div_ceil (sum_by (λ (y : Item). y.bits) (item ∷ [])) 8) ≤ 64
+    by None = omega (arith, sum_by-cons (λ (y : Item). y.bits) item [], div_ceil_times (sum_by (λ (y : Item). y.bits) (item ∷ [])) 8 (omega arith))
+    by (Some id) = omega (arith, sum_by-cons (λ x. x) (bytes_of_item item) [], div_ceil_times item.bits 8 (omega arith))
+
+-- one item of at most 512 bits can be a frame
+pub one_stands : (item : Item) → item.bits ≤ 512 → ClassStands (item ∷ [])
+one_stands item few = record {
+  one_sender = λ i j d before lt. absurd (omega arith);
+  one_kind = λ i j d before lt. absurd (omega arith);
+  small = one_item_bytes item few;
+}
+
+-- where an item of at most 512 bits is left, there is an option
+pub some_option : (items : List Item) (p : List ℕ) → IsPartial items p → length p < length items → All (λ item. item.bits ≤ 512) items → options_of items p ≡ [] → ⊥
+some_option items p h room small none =
+    let (item, at) = element items (length p) room in
+    let once : count_by (λ x. nat_eq x (classes_of p)) (options_of items p) ≡ 1 =
+    new-option items p item h room (one_stands (get_or items (length p) item) (small (length p) item room))
+    in
+    absurd (let zero_is : 0 ≡ 1 = sym (ap (count_by (λ x. nat_eq x (classes_of p))) none) ∙ once in omega arith)

@@ -1,5 +1,5 @@
 -- What putting and taking back a label leave of the sums that are kept.
-use Rattle.std.proofs.Common.{◌≡◌, ℕ, ◌+◌, ◌<◌, ◌≤◌, ◌⊎◌, inl, inr, zero, suc, Bool, true, false, cond, nat_eq, List, [], ◌∷◌, ◌++◌, length, map, filter, get_or, take, drop, set, refl, sym, ap, ◌∙◌, arith, append-nil, length-take-le}
+use Rattle.std.proofs.Common.{◌≡◌, ℕ, ◌+◌, ◌<◌, ◌≤◌, ◌⊎◌, inl, inr, zero, suc, Bool, true, false, cond, nat_eq, List, [], ◌∷◌, ◌++◌, length, map, filter, get_or, take, drop, set, refl, sym, ap, subst, ◌∙◌, arith, append-nil, length-take-le}
 use Rattle.std.specs.List.{zip}
 use Rattle.std.proofs.lemmas.Bool.{cases_eq, eq-eqb, ne_eqb}
 use Rattle.std.proofs.lemmas.Grind.{get_or-set_at}
@@ -25,6 +25,10 @@ class_put {X} k label (l ∷ ls) (y ∷ ys) x lt at =
     by : (b : Bool) → class_of k (ls ++ label ∷ []) ys ≡ class_of k ls ys ++ cond (nat_eq label k) (x ∷ []) [] → cond b (y ∷ class_of k (ls ++ label ∷ []) ys) (class_of k (ls ++ label ∷ []) ys) ≡ cond b (y ∷ class_of k ls ys) (class_of k ls ys) ++ cond (nat_eq label k) (x ∷ []) []
     by true rest = ap (λ zs. y ∷ zs) rest
     by false rest = rest
+
+-- and so its own class has it last
+pub class_next : {X : Type 0} (label : ℕ) (labels : List ℕ) (xs : List X) (x : X) → length labels < length xs → x ≡ get_or xs (length labels) x → class_of label (labels ++ label ∷ []) xs ≡ class_of label labels xs ++ x ∷ []
+class_next label labels xs x lt at = class_put label label labels xs x lt at ∙ ap (λ b. class_of label labels xs ++ cond b (x ∷ []) []) (eq-eqb label label refl)
 
 -- no more items in a class than labels
 pub length-class_labels : {X : Type 0} (k : ℕ) (labels : List ℕ) (xs : List X) → length (class_of k labels xs) ≤ length labels
@@ -61,21 +65,22 @@ sums_put problem range labels sums count label item next some within low at are 
         ∙ sym (ap (sums_of problem) (step ∙ ap (λ b. class_of k (take count labels) range ++ cond b (item ∷ []) []) (ne_eqb label k (λ e. other (sym e))) ∙ append-nil (class_of k (take count labels) range)))
 
 -- what was kept before it
-pub undo_put : (problem : Parts) (range : List Item) (labels : List ℕ) (undo : List Sums) (count label : ℕ) (before : Sums) → count < length labels → count < length undo
-    → AreSums problem (class_of label (take count labels) range) before
-    → ((i : ℕ) (d : Sums) → i < count → AreSums problem (class_of (get_or labels i 0) (take i labels) range) (get_or undo i d))
-    → (i : ℕ) (d : Sums) → i < count + 1 → AreSums problem (class_of (get_or (set labels count label) i 0) (take i (set labels count label)) range) (get_or (set undo count before) i d)
-undo_put problem range labels undo count label before some low is are i d lt = by (cases_eq i count)
+pub before_put : {U : Type 0} (P : ℕ → List ℕ → U → Type 0) (labels : List ℕ) (kept : List U) (count label : ℕ) (before : U) → count < length labels → count < length kept
+    → P label (take count labels) before
+    → ((i : ℕ) (d : U) → i < count → P (get_or labels i 0) (take i labels) (get_or kept i d))
+    → (i : ℕ) (d : U) → i < count + 1 → P (get_or (set labels count label) i 0) (take i (set labels count label)) (get_or (set kept count before) i d)
+before_put {U} P labels kept count label before some low is are i d lt = by (cases_eq i count)
   where
-    by : (i ≡ count) ⊎ (i ≡ count → ⊥) → get_or (set undo count before) i d ≡ sums_of problem (class_of (get_or (set labels count label) i 0) (take i (set labels count label)) range)
+    move : (k m : ℕ) (ls ms : List ℕ) (u v : U) → k ≡ m → ls ≡ ms → u ≡ v → P m ms v → P k ls u
+    move k m ls ms u v e f g h = subst (λ x. P x ls u) (sym e) (subst (λ x. P m x u) (sym f) (subst (λ x. P m ms x) (sym g) h))
+
+    by : (i ≡ count) ⊎ (i ≡ count → ⊥) → P (get_or (set labels count label) i 0) (take i (set labels count label)) (get_or (set kept count before) i d)
     by (inl same) =
-        get_or-set_at undo count i before d same low ∙ is
-        ∙ sym (ap (λ k. sums_of problem (class_of k (take i (set labels count label)) range)) (get_or-set_at labels count i label 0 same some)
-        ∙ ap (λ ls. sums_of problem (class_of label ls range)) (ap (λ n. take n (set labels count label)) same ∙ take-set labels count label))
+        move (get_or (set labels count label) i 0) label (take i (set labels count label)) (take count labels) (get_or (set kept count before) i d) before
+        (get_or-set_at labels count i label 0 same some) (ap (λ n. take n (set labels count label)) same ∙ take-set labels count label) (get_or-set_at kept count i before d same low) is
     by (inr other) =
-        get_or-set_other undo count i before d other ∙ are i d (omega (arith, lt, other))
-        ∙ sym (ap (λ k. sums_of problem (class_of k (take i (set labels count label)) range)) (get_or-set_other labels count i label 0 other)
-        ∙ ap (λ ls. sums_of problem (class_of (get_or labels i 0) ls range)) (take-set-le i labels count label (omega arith)))
+        move (get_or (set labels count label) i 0) (get_or labels i 0) (take i (set labels count label)) (take i labels) (get_or (set kept count before) i d) (get_or kept i d)
+        (get_or-set_other labels count i label 0 other) (take-set-le i labels count label (omega arith)) (get_or-set_other kept count i before d other) (are i d (omega (arith, lt, other)))
 
 -- a label that is taken back
 pub sums_back : (problem : Parts) (range : List Item) (labels : List ℕ) (sums : List Sums) (n label : ℕ) (item : Item) (before : Sums) → n < length labels → n < length range → label < length sums → item ≡ get_or range n item → get_or labels n 0 ≡ label

@@ -1,21 +1,30 @@
--- What belonging gives: room for the next label, and small sums and a signal for each used label.
-use Rattle.std.proofs.Common.{◌≡◌, ◌<◌, ◌≤◌, ◌+◌, ℕ, [], ◌∷◌, ◌++◌, List, length, take, drop, All, sym, subst, arith, length-append, length-take-le, refl}
+-- What belonging gives: room for the next label, small sums, and a signal for each used label.
+use Rattle.std.proofs.Common.{◌≡◌, ◌<◌, ◌≤◌, ◌+◌, ℕ, Bool, true, false, IsTrue, ◌↔◌, [], ◌∷◌, ◌++◌, List, length, take, drop, All, sym, ap, subst, ◌∙◌, arith, length-append, length-take-le, refl}
+use Rattle.std.proofs.lemmas.Bool.{false≢true}
+use Rattle.std.proofs.lemmas.List.Elements.{All-weaker}
 use Rattle.std.proofs.lemmas.List.Sorted.{IsPermutation-refl}
 use Rattle.pack_model.specs.declared.item.Item.{Item}
-use Rattle.pack_model.specs.Problem.{Parts, IsProblem, items_in_order}
+use Rattle.pack_model.specs.Problem.{Parts, IsProblem, items_in_order, senders_of}
 use Rattle.pack_model.proofs.ItemFacts.{IsItemOf, items_of_signals, small_items}
 use Rattle.pack_model.proofs.Laws.{tests}
+use Rattle.pack_model.proofs.Numbering.{few_senders}
+use Rattle.pack_model.proofs.OrderSteps.{all_numbered}
 use Rattle.pack_model.proofs.ProblemItems.{of_problem}
-use Rattle.class_frame.specs.Grouping.{classes_of}
+use Rattle.class_frame.specs.Grouping.{class_of, classes_of}
 use Rattle.class_frame.specs.Laws.{HasSignal}
-use Rattle.class_frame.specs.Sums.{sums_of, IsSmall}
+use Rattle.class_frame.specs.Legal.{ClassStands}
+use Rattle.class_frame.specs.declared.sums.Sums.{Sums}
+use Rattle.class_frame.specs.Sums.{AreSums, sums_of, joined, top, IsSmall}
 use Rattle.class_frame.proofs.GroupingLaws.{All-class_of, class_of-some, classes_of-le-length, used}
+use Rattle.class_frame.proofs.Joining.{sums_of-append}
+use Rattle.class_frame.proofs.Tables.{joined_small}
 use Rattle.class_frame.proofs.Used.{items_have_signal, class_is_small}
-use Rattle.grouping_tree.specs.Partial.{IsPartial}
-use Rattle.grouping_tree.specs.Grouped.{Belongs, IsUsed, items_with, labels_of, range_of}
+use Rattle.grouping_tree.specs.Partial.{IsPartial, is_class, keeps_legal}
+use Rattle.grouping_tree.specs.Grouped.{Belongs, IsNext, IsUsed, items_with, labels_of, range_of, room_of}
 use Rattle.grouping_tree.specs.declared.partial.Partial.{Partial}
-use Rattle.grouping_tree.proofs.Options.{next-low, is_class-to}
-use Rattle.grouping_tree.proofs.Steps.{range_at, length-range}
+use Rattle.grouping_tree.proofs.Fronts.{partial-append}
+use Rattle.grouping_tree.proofs.Options.{next-low, is_class-to, is_class-from}
+use Rattle.grouping_tree.proofs.Steps.{class_next, element, range_at, length-class_labels, length-range}
 
 -- what holds of all items of the problem holds of those of a range
 pub in_range : {X : Type 0} (P : X → Type 0) (first room : ℕ) (xs : List X) → first + room ≤ length xs → All P xs → All P (take room (drop first xs))
@@ -40,33 +49,107 @@ partial-none items =
 
 -- the labels are as many as are counted
 pub counted : (problem : Parts) (p : Partial) → Belongs problem p → length (labels_of p) ≡ p.count
-counted problem p b = length-take-le p.count p.labels.items (omega (arith, b.within, b.labels_room))
+counted problem p b = length-take-le p.count p.labels.items (omega (arith, b.within, b.enough))
 
--- there is room for a label that may be put
-pub room_of : (problem : Parts) (p : Partial) (label : ℕ) → Belongs problem p → IsPartial (range_of problem p) (labels_of p ++ label ∷ []) → (p.count < p.room) × (label < p.room)
-room_of problem p label b legal =
-    let many = counted problem p b in
-    let has : p.count < p.room = omega (arith, many, length-range p.first p.room problem.items b.inside, legal.within, length-append (labels_of p) (label ∷ [])) in
-    let low = next-low (range_of problem p) (labels_of p) label legal in
-    let few = classes_low (range_of problem p) (labels_of p) b.legal in
-    (has, omega (arith, low, few, many, has))
+-- and the items as many as there are said to be
+pub long : (problem : Parts) (p : Partial) → Belongs problem p → length (range_of problem p) ≡ p.many
+long problem p b = length-range p.first p.many problem.items b.inside
 
--- and for one that is used
-pub used_room : (problem : Parts) (p : Partial) (label : ℕ) → Belongs problem p → IsUsed p label → label < p.room
-used_room problem p label b low = omega (arith, low, classes_low (range_of problem p) (labels_of p) b.legal, counted problem p b, b.within)
+-- there are at most 128
+pub few : (problem : Parts) (p : Partial) → Belongs problem p → p.many ≤ 128
+few problem p b = omega (arith, (tests problem b.stands).few_items, b.inside)
+
+-- each is small
+pub small_range : (problem : Parts) (p : Partial) → Belongs problem p → All (λ item. item.bits ≤ 512) (range_of problem p)
+small_range problem p b = in_range (λ (item : Item). item.bits ≤ 512) p.first p.many problem.items b.inside (small_items problem b.stands)
+
+-- there are no more classes than labels
+pub classes_few : (problem : Parts) (p : Partial) → Belongs problem p → classes_of (labels_of p) ≤ p.count
+classes_few problem p b = omega (arith, classes_low (range_of problem p) (labels_of p) b.legal, counted problem p b)
+
+-- where an item is left, a label up to the first unused one has room
+pub low_room : (problem : Parts) (p : Partial) (label : ℕ) → Belongs problem p → p.count < p.many → label ≤ classes_of (labels_of p) → label < room_of p
+low_room problem p label b some low = omega (arith, low, some, classes_few problem p b, b.enough)
+
+-- a label that may be put is one of an item that is left
+pub put_room : (problem : Parts) (p : Partial) (label : ℕ) → Belongs problem p → IsPartial (range_of problem p) (labels_of p ++ label ∷ []) → (p.count < p.many) × (label ≤ classes_of (labels_of p))
+put_room problem p label b legal =
+    (omega (arith, counted problem p b, long problem p b, legal.within, length-append (labels_of p) (label ∷ [])), next-low (range_of problem p) (labels_of p) label legal)
+
+-- a used label has room
+pub used_room : (problem : Parts) (p : Partial) (label : ℕ) → Belongs problem p → IsUsed p label → label < room_of p
+used_room problem p label b low = omega (arith, low, classes_few problem p b, b.within, b.enough)
 
 -- the items of a used label have a signal
-pub used_signal : (problem : Parts) (p : Partial) (label : ℕ) → IsProblem problem → Belongs problem p → IsUsed p label → HasSignal problem (items_with problem p label)
-used_signal problem p label stands b low =
+pub used_signal : (problem : Parts) (p : Partial) (label : ℕ) → Belongs problem p → IsUsed p label → HasSignal problem (items_with problem p label)
+used_signal problem p label b low =
     let (k, lt, at) = used (labels_of p) b.legal.by_first_use label low in
-    let all = of_problem problem stands (IsItemOf problem.signals) (items_of_signals problem.signals (items_in_order problem.signals) (IsPermutation-refl (items_in_order problem.signals))) in
+    let all = of_problem problem b.stands (IsItemOf problem.signals) (items_of_signals problem.signals (items_in_order problem.signals) (IsPermutation-refl (items_in_order problem.signals))) in
     items_have_signal problem (items_with problem p label)
     (class_of-some label (labels_of p) (range_of problem p) k lt (omega (arith, lt, b.legal.within)) at)
-    (All-class_of (IsItemOf problem.signals) label (labels_of p) (range_of problem p) (in_range (IsItemOf problem.signals) p.first p.room problem.items b.inside all))
+    (All-class_of (IsItemOf problem.signals) label (labels_of p) (range_of problem p) (in_range (IsItemOf problem.signals) p.first p.many problem.items b.inside all))
 
 -- and their sums are small
-pub used_small : (problem : Parts) (p : Partial) (label : ℕ) → IsProblem problem → Belongs problem p → IsSmall (sums_of problem (items_with problem p label))
-used_small problem p label stands b =
-    class_is_small problem (range_of problem p) (labels_of p) label
-    (omega (arith, (tests problem stands).few_items, b.inside, length-range p.first p.room problem.items b.inside))
-    (in_range (λ (item : Item). item.bits ≤ 512) p.first p.room problem.items b.inside (small_items problem stands))
+pub used_small : (problem : Parts) (p : Partial) (label : ℕ) → Belongs problem p → IsSmall (sums_of problem (items_with problem p label))
+used_small problem p label b =
+    class_is_small problem (range_of problem p) (labels_of p) label (omega (arith, few problem p b, long problem p b)) (small_range problem p b)
+
+-- the sums of a label with the next item are small, and those of its items once it is put
+pub next_small : (problem : Parts) (p : Partial) (label : ℕ) (next sums : Sums) → Belongs problem p → IsNext problem p next → AreSums problem (items_with problem p label) sums → IsSmall (joined sums next)
+next_small problem p label next sums b is are =
+    let n = length (labels_of p) in
+    let (item, at) = element (range_of problem p) n is.some in
+    joined_small problem (items_with problem p label) item sums next
+    (omega (arith, length-class_labels label (labels_of p) (range_of problem p), is.some, few problem p b, long problem p b))
+    (All-class_of (λ (item : Item). item.bits ≤ 512) label (labels_of p) (range_of problem p) (small_range problem p b))
+    (subst (λ (x : Item). x.bits ≤ 512) (sym at) (small_range problem p b n item is.some)) are (is.sums item ∙ ap (λ x. sums_of problem (x ∷ [])) (sym at))
+
+pub next_sums : (problem : Parts) (p : Partial) (label : ℕ) (next sums : Sums) → Belongs problem p → IsNext problem p next → AreSums problem (items_with problem p label) sums
+    → joined sums next ≡ sums_of problem (class_of label (labels_of p ++ label ∷ []) (range_of problem p))
+next_sums problem p label next sums b is are =
+    let n = length (labels_of p) in
+    let (item, at) = element (range_of problem p) n is.some in
+    ap (λ s. joined s next) are ∙ ap (joined (sums_of problem (items_with problem p label))) (is.sums item ∙ ap (λ x. sums_of problem (x ∷ [])) (sym at))
+    ∙ sym (sums_of-append problem (items_with problem p label) (item ∷ []))
+    ∙ ap (sums_of problem) (sym (class_next label (labels_of p) (range_of problem p) item is.some at))
+
+-- the senders' numbers are low
+pub senders_low : (problem : Parts) → IsProblem problem → All (λ item. item.sender ≤ top) problem.items
+senders_low problem stands =
+    let t = tests problem stands in
+    let many : length (senders_of problem.signals) ≤ 2048 = omega (arith, t.few, few_senders problem.signals) in
+    of_problem problem stands (λ item. item.sender ≤ top)
+    (All-weaker (λ (item : Item). item.sender < length (senders_of problem.signals)) (λ item. item.sender ≤ top) (λ item low. omega (arith, low, many)) (items_in_order problem.signals) (all_numbered problem.signals))
+
+-- whether a label may be put is whether its class with the next item stands
+pub may_put_is : (problem : Parts) (p : Partial) (label : ℕ) (sums : Sums) (result : Bool) → Belongs problem p
+    → AreSums problem (class_of label (labels_of p ++ label ∷ []) (range_of problem p)) sums
+    → ((problem : Parts) (items : List Item) → AreSums problem items sums → All (λ item. item.sender ≤ top) items → IsTrue result ↔ ClassStands items)
+    → result ≡ keeps_legal (range_of problem p) (labels_of p) label
+may_put_is problem p label sums result b are is =
+    let items = class_of label (labels_of p ++ label ∷ []) (range_of problem p) in
+    same result items (is problem items are (All-class_of (λ (item : Item). item.sender ≤ top) label (labels_of p ++ label ∷ []) (range_of problem p)
+    (in_range (λ (item : Item). item.sender ≤ top) p.first p.many problem.items b.inside (senders_low problem b.stands))))
+  where
+    same : (result : Bool) (items : List Item) → IsTrue result ↔ ClassStands items → result ≡ is_class items
+    same true items both = sym (is_class-from items (both.0 refl))
+    same false items both = by (is_class items) refl
+      where
+        by : (b : Bool) → is_class items ≡ b → false ≡ b
+        by true e = absurd (false≢true (both.1 (is_class-to items e)))
+        by false e = refl
+
+-- the last label is low
+pub last_low : (problem : Parts) (p : Partial) (q : List ℕ) (l : ℕ) → Belongs problem p → labels_of p ≡ q ++ l ∷ [] → l + 1 ≤ 128
+last_low problem p q l b e =
+    let legal : IsPartial (range_of problem p) (q ++ l ∷ []) = subst (IsPartial (range_of problem p)) e b.legal in
+    omega (
+      arith,
+      next-low (range_of problem p) q l legal,
+      classes_low (range_of problem p) q (partial-append (range_of problem p) q (l ∷ []) legal),
+      ap length e,
+      length-append q (l ∷ []),
+      counted problem p b,
+      b.within,
+      few problem p b,
+    )

@@ -6,6 +6,7 @@
 
 mod laws;
 mod partial;
+mod walk;
 
 pub use laws::{
     fronts_are_legal, full_is_legal, legal_is_partial, new_is_option, next_is_option,

@@ -1,11 +1,13 @@
 //! A partial grouping with its running sums.
-ghost use Rattle.std.specs.Prelude.{◌≡◌, ◌≤◌, ◌<◌, ◌+◌, ℕ, Some, [], ◌∷◌, ◌++◌, length, IfOk};
+ghost use Rattle.std.specs.Prelude.{◌≡◌, ◌≤◌, ◌<◌, ◌+◌, ℕ, Some, None, [], ◌∷◌, ◌++◌, length, take, slice_index, IfOk, IfSome, MatchOption};
 ghost use Rattle.busy_period.specs.Timed.{IsInRange};
-ghost use Rattle.pack_model.specs.Problem.{Parts, IsProblem};
+ghost use Rattle.pack_model.specs.Problem.{Parts};
 ghost use Rattle.class_frame.specs.Frame.{timed_of_items, weight_of_items, size_of_items};
-ghost use Rattle.class_frame.specs.Sums.{AreSums};
-ghost use Rattle.grouping_tree.specs.Partial.{IsPartial};
-ghost use Rattle.grouping_tree.specs.Grouped.{Belongs, IsUsed, items_with, labels_of, range_of};
+ghost use Rattle.class_frame.specs.Grouping.{class_of, classes_of};
+ghost use Rattle.class_frame.specs.Sums.{AreSums, IsSmall};
+ghost use Rattle.grouping_tree.specs.Partial.{IsPartial, keeps_legal, options_of};
+ghost use Rattle.grouping_tree.specs.Grouped.{Belongs, IsNext, IsUsed, items_with, labels_of, range_of, room_of};
+ghost use Rattle.grouping_tree.specs.Walk.{options_from, places_below, places_left};
 
 use busy_period::Timed;
 use class_frame::Sums;
@@ -20,33 +22,50 @@ pub struct Partial {
     /// The place of the range's first item.
     first: usize,
     /// How many items the range has.
-    room: usize,
+    many: usize,
     /// How many of them have a label.
     count: usize,
-    /// The labels, and zeros.
+    /// How many classes these have.
+    classes: u32,
+    /// The labels, and what is left of earlier ones.
     labels: Vec<u32>,
     /// The sums of the items of each label.
     sums: Vec<Sums>,
-    /// The sums of each item's label before the item.
-    undo: Vec<Sums>,
+    /// What was kept before each item got its label.
+    before: Vec<Before>,
+}
+
+/// What was kept before an item got its label.
+#[derive(Clone, Copy, Debug, PartialEq, Eq)]
+struct Before {
+    /// The sums of the items of the label.
+    sums: Sums,
+    /// The number of classes.
+    classes: u32,
 }
 
 impl Partial {
-    /// No labels, over all items of the problem.
+    /// No labels, over all items of the problem. Memory is taken for all later calls.
     pub fn whole(alloc: Global, problem: &Problem) -> Result<Partial, Memory>
         ensures belongs { IfOk result (Belongs problem.now) }
         ensures none { IfOk result (λ partial. labels_of partial ≡ []) }
         ensures range { IfOk result (λ partial. range_of problem.now partial ≡ problem.now.items) }
+        ensures room { IfOk result (λ partial. room_of partial ≡ length problem.now.items) }
     {
-        let room = problem.items().len();
+        let many = problem.items().len();
+        let none = Before {
+            sums: Sums::none(),
+            classes: 0,
+        };
         Ok(Partial {
             network: *problem.network(),
             first: 0,
-            room,
+            many,
             count: 0,
-            labels: vec![in alloc; 0; room]?,
-            sums: vec![in alloc; Sums::none(); room]?,
-            undo: vec![in alloc; Sums::none(); room]?,
+            classes: 0,
+            labels: vec![in alloc; 0; many]?,
+            sums: vec![in alloc; Sums::none(); many]?,
+            before: vec![in alloc; none; many]?,
         })
     }
 
@@ -58,6 +77,102 @@ impl Partial {
         &self.labels[..self.count]
     }
 
+    /// The number of classes that the labels make.
+    pub fn classes(&self) -> u32
+        requires { (problem : Parts) × Belongs problem self.now }
+        ensures { result ≡ classes_of (labels_of self.now) }
+    {
+        self.classes
+    }
+
+    /// The number of labels that may be put next: 0 where each item of the range has one. It goes once over the used
+    /// labels.
+    pub fn options(&self, problem: &Problem) -> u32
+        requires { Belongs problem.now self.now }
+        ensures { result ≡ length (options_of (range_of problem.now self.now) (labels_of self.now)) }
+    {
+        if self.count == self.many {
+            return 0;
+        }
+        let next = self.next_sums(problem);
+        let mut count = 0;
+        for label in 0..self.classes + 1 {
+            if self.may_put(label, next) {
+                count += 1;
+            }
+        }
+        count
+    }
+
+    /// The option of number `k`, from 0 on, by ascending labels.
+    pub fn option(&self, problem: &Problem, k: u32) -> u32
+        requires belongs { Belongs problem.now self.now }
+        requires below { k < length (options_of (range_of problem.now self.now) (labels_of self.now)) }
+        ensures { result ≡ slice_index (options_of (range_of problem.now self.now) (labels_of self.now)) k }
+    {
+        let next = self.next_sums(problem);
+        let mut before = k;
+        for label in 0..self.classes + 1 {
+            if self.may_put(label, next) {
+                if before == 0 {
+                    return label;
+                }
+                before -= 1;
+            }
+        }
+        unreachable!()
+    }
+
+    /// The least option that is at least `from`, if there is one.
+    pub fn next_option(&self, problem: &Problem, from: u32) -> Option<u32>
+        requires { Belongs problem.now self.now }
+        ensures option { MatchOption result (options_from (range_of problem.now self.now) (labels_of self.now) from ≡ [])
+            (λ label. options_from (range_of problem.now self.now) (labels_of self.now) from
+            ≡ label ∷ options_from (range_of problem.now self.now) (labels_of self.now) (label + 1)) }
+        ensures legal { IfSome result (λ label. IsPartial (range_of problem.now self.now) (labels_of self.now ++ label ∷ [])) }
+    {
+        if self.count == self.many {
+            return None;
+        }
+        let next = self.next_sums(problem);
+        for label in from..self.classes + 1 {
+            if self.may_put(label, next) {
+                return Some(label);
+            }
+        }
+        None
+    }
+
+    /// The sums of the next item of the range.
+    fn next_sums(&self, problem: &Problem) -> Sums
+        requires belongs { Belongs problem.now self.now }
+        requires some { length (labels_of self.now) < length (range_of problem.now self.now) }
+        ensures { IsNext problem.now self.now result }
+    {
+        Sums::of(problem, &problem.items()[self.first + self.count])
+    }
+
+    /// The sums of the items of a label together with the next item, whose sums are `next`.
+    fn sums_with(&self, label: u32, next: Sums) -> Sums
+        requires next { (problem : Parts) × Belongs problem self.now × IsNext problem self.now next }
+        requires low { label ≤ classes_of (labels_of self.now) }
+        ensures sums { (problem : Parts) → Belongs problem self.now → IsNext problem self.now next
+            → AreSums problem (class_of label (labels_of self.now ++ label ∷ []) (range_of problem self.now)) result }
+        ensures small { IsSmall result }
+    {
+        self.sums[label as usize].join(next)
+    }
+
+    /// Whether the next item, whose sums are `next`, may get a label.
+    fn may_put(&self, label: u32, next: Sums) -> bool
+        requires next { (problem : Parts) × Belongs problem self.now × IsNext problem self.now next }
+        requires low { label ≤ classes_of (labels_of self.now) }
+        ensures { (problem : Parts) → Belongs problem self.now → IsNext problem self.now next
+            → result ≡ keeps_legal (range_of problem self.now) (labels_of self.now) label }
+    {
+        self.sums_with(label, next).stands()
+    }
+
     /// Gives the next item a label: one that may be put next.
     pub fn put(&mut self, problem: &Problem, label: u32)
         requires belongs { Belongs problem.now self.old }
@@ -65,12 +180,17 @@ impl Partial {
         ensures belongs { Belongs problem.now self.new }
         ensures labels { labels_of self.new ≡ labels_of self.old ++ label ∷ [] }
         ensures range { range_of problem.now self.new ≡ range_of problem.now self.old }
+        ensures room { room_of self.new ≡ room_of self.old }
     {
-        let item = &problem.items()[self.first + self.count];
-        let before = self.sums[label as usize];
-        self.undo[self.count] = before;
+        let next = self.next_sums(problem);
+        let with_next = self.sums_with(label, next);
+        self.before[self.count] = Before {
+            sums: self.sums[label as usize],
+            classes: self.classes,
+        };
         self.labels[self.count] = label;
-        self.sums[label as usize] = before.join(Sums::of(problem, item));
+        self.sums[label as usize] = with_next;
+        self.classes = self.classes.max(label + 1);
         self.count += 1;
     }
 
@@ -81,17 +201,20 @@ impl Partial {
         ensures belongs { Belongs problem.now self.new }
         ensures labels { (label : ℕ) × (labels_of self.old ≡ labels_of self.new ++ label ∷ []) }
         ensures range { range_of problem.now self.new ≡ range_of problem.now self.old }
+        ensures room { room_of self.new ≡ room_of self.old }
     {
         self.count -= 1;
+        let before = self.before[self.count];
         let label = self.labels[self.count];
-        self.sums[label as usize] = self.undo[self.count];
+        self.sums[label as usize] = before.sums;
+        self.classes = before.classes;
     }
 
     /// What is kept of the class of a used label, for every problem to which the partial grouping belongs.
     pub fn kept(&self, label: u32) -> Kept
-        requires belongs { (problem : Parts) × IsProblem problem × Belongs problem self.now }
+        requires belongs { (problem : Parts) × Belongs problem self.now }
         requires used { IsUsed self.now label }
-        ensures timed { (problem : Parts) → IsProblem problem → Belongs problem self.now
+        ensures timed { (problem : Parts) → Belongs problem self.now
             → result.timed ≡ timed_of_items problem (items_with problem self.now label) }
         ensures weight { (problem : Parts) → Belongs problem self.now
             → result.weight ≡ weight_of_items (items_with problem self.now label) }

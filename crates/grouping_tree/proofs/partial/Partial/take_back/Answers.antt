@@ -1,39 +1,46 @@
 use Rattle.std.proofs.Common.{subst, [], ◌∷◌, ◌≡◌, ◌<◌, ◌+◌, ◌-◌, ℕ, length, take, get_or, sym, ap, ◌∙◌, arith, length-set}
 use Rattle.std.proofs.lemmas.Grind.{get_or_default_zero}
+use Rattle.std.proofs.lemmas.List.{take_more}
 use Rattle.class_frame.specs.Grouping.{class_of}
 use Rattle.class_frame.specs.Sums.{AreSums, sums_of}
-use Rattle.grouping_tree.specs.Grouped.{range_of}
-use Rattle.grouping_tree.proofs.Steps.{sums_back, length-range, element}
-use Rattle.std.proofs.lemmas.List.{take_more}
 use Rattle.grouping_tree.specs.Partial.{IsPartial}
+use Rattle.grouping_tree.specs.Grouped.{IsBefore, range_of, room_of}
 use Rattle.grouping_tree.proofs.Fronts.{partial-append}
-use Rattle.grouping_tree.proofs.Used.{counted}
+use Rattle.grouping_tree.proofs.Steps.{sums_back, element}
+use Rattle.grouping_tree.proofs.Used.{counted, long}
 use Rattle.grouping_tree.proofs.partial.Partial.take_back.Goals as goal
 
 pub returns-clause-belongs : goal.returns-clause-belongs
 returns-clause-belongs c =
-    let old = c.requires.belongs in
-    let n : ℕ = c.args.self.now.count - 1 in
-    let next : n + 1 ≡ c.args.self.now.count = omega (arith, c.requires.some, counted c.args.problem.now c.args.self.now c.requires.belongs) in
+    let p = c.args.self.now in
+    let problem = c.args.problem.now in
+    let b = c.requires.belongs in
+    let n : ℕ = p.count - 1 in
+    let next : n + 1 ≡ p.count = omega (arith, c.requires.some, counted problem p b) in
     let label : ℕ = c.index-label.result.now in
-    let range = range_of c.args.problem.now c.args.self.now in
-    let long = length-range c.args.self.now.first c.args.self.now.room c.args.problem.now.items old.inside in
-    let some : n < length c.args.self.now.labels.items = omega (arith, old.labels_room, old.within, next) in
-    let here : get_or c.args.self.now.labels.items n 0 ≡ label = sym (c.index-label.ensures ∙ get_or_default_zero c.args.self.now.labels.items n label some) in
-    let low : label < c.args.self.now.room = omega (arith, old.low n (omega (arith, next)), here) in
-    let before : AreSums c.args.problem.now (class_of label (take n c.args.self.now.labels.items) range) c.index.result.now =
-    c.index.ensures ∙ old.undo n c.index.result.now (omega (arith, next)) ∙ ap (λ k. sums_of c.args.problem.now (class_of k (take n c.args.self.now.labels.items) range)) here in
-    let (item, at) = element range n (omega (arith, long, next, old.within)) in
+    let range = range_of problem p in
+    let many = long problem p b in
+    let some : n < length p.labels.items = omega (arith, b.enough, b.within, next) in
+    let here : get_or p.labels.items n 0 ≡ label = sym (c.index-label.ensures ∙ get_or_default_zero p.labels.items n label some) in
+    let low : label < room_of p = omega (arith, b.low n (omega (arith, next)), here) in
+    let old : IsBefore problem range (take n p.labels.items) (get_or p.labels.items n 0) c.index-before.result.now =
+    subst (IsBefore problem range (take n p.labels.items) (get_or p.labels.items n 0)) (sym c.index-before.ensures) (b.before n c.index-before.result.now (omega (arith, next)))
+    in
+    let before : AreSums problem (class_of label (take n p.labels.items) range) c.index-before.result.now.sums =
+    old.sums ∙ ap (λ k. sums_of problem (class_of k (take n p.labels.items) range)) here in
+    let (item, at) = element range n (omega (arith, many, next, b.within)) in
     record {
-      network = old.network;
-      inside = old.inside;
-      within = omega (arith, old.within);
-      labels_room = old.labels_room;
-      sums_room = length-set c.args.self.now.sums.items label c.index.result.now ∙ old.sums_room;
-      undo_room = old.undo_room;
-      legal = partial-append range (take n c.args.self.now.labels.items) (get_or c.args.self.now.labels.items n 0 ∷ []) (subst (IsPartial range) (ap (λ m. take m c.args.self.now.labels.items) (sym next) ∙ take_more c.args.self.now.labels.items n 0 some) old.legal);
-      low = λ i lt. old.low i (omega (arith, lt, next));
-      sums = λ k d lt. sums_back c.args.problem.now range c.args.self.now.labels.items c.args.self.now.sums.items n label item c.index.result.now some (omega (arith, long, next, old.within)) (omega (arith, old.sums_room, low)) at here
-          (λ j e below. old.sums j e (omega (arith, below, old.sums_room)) ∙ ap (λ m. sums_of c.args.problem.now (class_of j (take m c.args.self.now.labels.items) range)) (sym next)) before k d (omega (arith, lt, old.sums_room));
-      undo = λ i d lt. old.undo i d (omega (arith, lt, next));
+      stands = b.stands;
+      network = b.network;
+      inside = b.inside;
+      within = omega (arith, b.within);
+      enough = b.enough;
+      sums_room = length-set p.sums.items label c.index-before.result.now.sums ∙ b.sums_room;
+      before_room = b.before_room;
+      legal = partial-append range (take n p.labels.items) (get_or p.labels.items n 0 ∷ []) (subst (IsPartial range) (ap (λ m. take m p.labels.items) (sym next) ∙ take_more p.labels.items n 0 some) b.legal);
+      low = λ i lt. b.low i (omega (arith, lt, next));
+      classes = old.classes;
+      sums = λ k d lt. sums_back problem range p.labels.items p.sums.items n label item c.index-before.result.now.sums some (omega (arith, many, next, b.within)) (omega (arith, b.sums_room, low)) at here
+          (λ j e below. b.sums j e (omega (arith, below, b.sums_room)) ∙ ap (λ m. sums_of problem (class_of j (take m p.labels.items) range)) (sym next)) before k d (omega (arith, lt, b.sums_room));
+      before = λ i d lt. b.before i d (omega (arith, lt, next));
     }

@@ -8,14 +8,16 @@ pub returns-clause-belongs : goal.returns-clause-belongs
 returns-clause-belongs c =
     let sums = c.in_ok-vec-2.ensures.items_if_clones_equal (λ y h. h) in
     record {
+      stands = search rules;
       network = search rules;
       inside = search rules;
       within = omega arith;
-      labels_room = search rules;
+      enough = search rules;
       sums_room = search rules;
-      undo_room = search rules;
+      before_room = search rules;
       legal = partial-none _;
       low = λ i lt. absurd (omega arith);
-      sums = λ k d lt. ap (λ (l : List Sums). get_or l k d) sums ∙ get_or-replicate _ k c.none.result d lt ∙ c.none.ensures c.args.problem.now;
-      undo = λ i d lt. absurd (omega arith);
+      classes = search rules;
+      sums = λ k d lt. ap (λ (l : List Sums). get_or l k d) sums ∙ get_or-replicate _ k c.none-2.result d (search rules) ∙ c.none-2.ensures c.args.problem.now;
+      before = λ i d lt. absurd (omega arith);
     }

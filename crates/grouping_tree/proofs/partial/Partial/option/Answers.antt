@@ -1,0 +1,58 @@
+use Rattle.std.proofs.Common.{◌≡◌, ◌<◌, ◌+◌, suc, length, get_or, sym, ◌∙◌, arith, ap}
+use Rattle.class_frame.specs.Grouping.{classes_of}
+use Rattle.grouping_tree.specs.Grouped.{labels_of, range_of}
+use Rattle.grouping_tree.specs.Walk.{options_from}
+use Rattle.grouping_tree.proofs.Used.{few, classes_few}
+use Rattle.grouping_tree.proofs.Walks.{from-all, from-here, from-next, from-past, option_left}
+use Rattle.grouping_tree.proofs.partial.Partial.option.Goals.{then-may_put+else-before-eq0, else-may_put}
+use Rattle.grouping_tree.proofs.partial.Partial.option.Goals as goal
+
+pub overflow_add-label-end : goal.overflow_add-label-end
+overflow_add-label-end c =
+    let b = c.requires.belongs in
+    omega (arith, b.classes, classes_few c.args.problem.now c.args.self.now b, few c.args.problem.now c.args.self.now b, b.within)
+
+pub loop-label-init : goal.loop-label-init
+loop-label-init c =
+    let all = from-all (range_of c.args.problem.now c.args.self.now) (labels_of c.args.self.now) in
+    record { below = omega (arith, ap length all, c.requires.below); same = sym (ap (λ ls. get_or ls c.args.k 0) all) }
+
+pub returns-then-before-eq0 : goal.returns-then-before-eq0
+returns-then-before-eq0 c =
+    let b = c.requires.belongs in
+    let range = range_of c.args.problem.now c.args.self.now in
+    let labels = labels_of c.args.self.now in
+    let next = c.next_sums-next.ensures in
+    let low : c.loop-label.label < classes_of labels + 1 = omega (arith, b.classes, c.loop-label-test.true) in
+    let here = from-here range labels c.loop-label.label next.some low (sym (c.may_put.ensures c.args.problem.now b next) ∙ c.if-may_put.true) in
+    sym (c.loop-label.invariant.same ∙ ap (λ k. get_or (options_from range labels c.loop-label.label) k 0) c.if-before-eq0.true ∙ ap (λ ls. get_or ls 0 0) here)
+
+pub loop-label-preserved : goal.loop-label-preserved
+loop-label-preserved c =
+    let b = c.requires.belongs in
+    let range = range_of c.args.problem.now c.args.self.now in
+    let labels = labels_of c.args.self.now in
+    let next = c.next_sums-next.ensures in
+    let low : c.loop-label.label < classes_of labels + 1 = omega (arith, b.classes, c.loop-label-test.true) in
+    elim c.if-may_put.branch [
+      | then-may_put+else-before-eq0 w ↦
+          let here = from-here range labels c.loop-label.label next.some low (sym (c.may_put.ensures c.args.problem.now b next) ∙ w.if-may_put.true) in
+          let step : c.loop-label.before ≡ suc c.if-may_put.before = omega (arith, w.before-is, w.if-before-eq0.false) in
+          record {
+            below = omega (arith, step, ap length here, c.loop-label.invariant.below);
+            same = c.loop-label.invariant.same ∙ ap (λ k. get_or (options_from range labels c.loop-label.label) k 0) step ∙ ap (λ ls. get_or ls (suc c.if-may_put.before) 0) here;
+          }
+      | else-may_put w ↦
+          let here = from-next range labels c.loop-label.label next.some low (sym (c.may_put.ensures c.args.problem.now b next) ∙ w.if-may_put.false) in
+          record {
+            below = omega (arith, w.before-is, ap length here, c.loop-label.invariant.below);
+            same = c.loop-label.invariant.same ∙ ap (λ k. get_or (options_from range labels c.loop-label.label) k 0) (sym w.before-is) ∙ ap (λ ls. get_or ls c.if-may_put.before 0) here;
+          }
+    ]
+
+pub next_sums-next-requires-clause-some : goal.next_sums-next-requires-clause-some
+next_sums-next-requires-clause-some c = option_left (range_of c.args.problem.now c.args.self.now) (labels_of c.args.self.now) c.args.k c.requires.below
+
+pub unreachable-requires : goal.unreachable-requires
+unreachable-requires c =
+    absurd (omega (arith, c.loop-label.invariant.below, ap length (from-past (range_of c.args.problem.now c.args.self.now) (labels_of c.args.self.now) c.loop-label.label (omega (arith, c.requires.belongs.classes, c.loop-label-test.false)))))

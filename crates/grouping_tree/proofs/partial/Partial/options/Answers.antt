@@ -1,0 +1,40 @@
+use Rattle.std.proofs.Common.{◌<◌, ◌+◌, length, sym, ◌∙◌, arith, ap}
+use Rattle.class_frame.specs.Grouping.{classes_of}
+use Rattle.grouping_tree.specs.Grouped.{labels_of, range_of}
+use Rattle.grouping_tree.proofs.Used.{few, classes_few}
+use Rattle.grouping_tree.proofs.Walks.{from-all, from-here, from-next, from-past}
+use Rattle.grouping_tree.proofs.partial.Partial.options.Goals.{then-may_put, else-may_put}
+use Rattle.grouping_tree.proofs.partial.Partial.options.Goals as goal
+
+pub overflow_add-label-end : goal.overflow_add-label-end
+overflow_add-label-end c =
+    let b = c.requires in
+    omega (arith, b.classes, classes_few c.args.problem.now c.args.self.now b, few c.args.problem.now c.args.self.now b, b.within)
+
+pub loop-label-init : goal.loop-label-init
+loop-label-init c = record {
+  low = omega arith;
+  all = omega (arith, ap length (from-all (range_of c.args.problem.now c.args.self.now) (labels_of c.args.self.now)));
+}
+
+pub loop-label-preserved : goal.loop-label-preserved
+loop-label-preserved c =
+    let b = c.requires in
+    let range = range_of c.args.problem.now c.args.self.now in
+    let labels = labels_of c.args.self.now in
+    let next = c.next_sums-next.ensures in
+    let low : c.loop-label.label < classes_of labels + 1 = omega (arith, b.classes, c.loop-label-test.true) in
+    elim c.if-may_put.branch [
+      | then-may_put w ↦ record {
+        low = omega (arith, w.count-is, c.loop-label.invariant.low);
+        all = omega (arith, w.count-is, c.loop-label.invariant.all, ap length (from-here range labels c.loop-label.label next.some low (sym (c.may_put.ensures c.args.problem.now b next) ∙ w.if-may_put.true)));
+      }
+      | else-may_put w ↦ record {
+        low = omega (arith, w.count-is, c.loop-label.invariant.low);
+        all = omega (arith, w.count-is, c.loop-label.invariant.all, ap length (from-next range labels c.loop-label.label next.some low (sym (c.may_put.ensures c.args.problem.now b next) ∙ w.if-may_put.false)));
+      }
+    ]
+
+pub returns : goal.returns
+returns c =
+    omega (arith, c.loop-label.invariant.all, ap length (from-past (range_of c.args.problem.now c.args.self.now) (labels_of c.args.self.now) c.loop-label.label (omega (arith, c.requires.classes, c.loop-label-test.false))))
