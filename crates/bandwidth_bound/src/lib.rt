@@ -4,6 +4,13 @@
 //! part that fails first, and what follows from a verdict.
 #![tactic(auto)]
 
+mod failing;
+mod final_laws;
 mod verdict;
 
+pub use failing::refutes;
+pub use final_laws::{
+    bound_is_below, classes_extend, fail_set_is_final, failing_is_final, failing_sets_grow,
+    loads_never_fall, refuted_is_failing,
+};
 pub use verdict::{Part, Verdict};

@@ -1,0 +1,149 @@
+-- The order in which a named frame is tried, and when the frames that are named are too many or out of order.
+use Rattle.std.proofs.Common.{◌≡◌, ℕ, zero, suc, ◌+◌, ◌<◌, ◌≤◌, Bool, true, false, cond, List, [], ◌∷◌, ◌++◌, length, filter, take, get_or, nat_eq, All, Contains, sym, ap, ◌∙◌, arith, append-nil, append_assoc, length-append}
+use Rattle.std.specs.Prelude.{not}
+use Rattle.std.specs.List.{IsDistinct, range_with_len, list_any}
+use Rattle.std.specs.List.Sorted.{IsStrictlyIncreasing}
+use Rattle.std.proofs.lemmas.Bool.{eqb-true}
+use Rattle.std.proofs.lemmas.List.{length-map, map-append, take_more}
+use Rattle.std.proofs.lemmas.List.Elements.{All-contains, filter-append}
+use Rattle.std.proofs.lemmas.Map.Steps.{length-le_from_distinct_below}
+use Rattle.std.proofs.lemmas.Map.Views.{Contains-from_any}
+use Rattle.busy_period.specs.declared.timed.Timed.{Timed}
+use Rattle.busy_period.specs.Timed.{IsInRange}
+use Rattle.response_test.specs.declared.evidence.Evidence.{Evidence}
+use Rattle.response_test.specs.Order.{others_of, remaining_of}
+use Rattle.bandwidth_bound.specs.Failing.{AreRefuted, numbers_of, order_below}
+use Rattle.bandwidth_bound.proofs.Final.{distinct_rising, order_stage}
+
+-- one more entry
+pub numbers-more : (named : List (ℕ × Evidence)) (i : ℕ) (entry : ℕ × Evidence) → i < length named → entry ≡ get_or named i entry
+    → numbers_of (take (i + 1) named) ≡ numbers_of (take i named) ++ entry.0 ∷ []
+numbers-more named i entry lt at =
+    ap numbers_of (take_more named i entry lt) ∙ map-append (λ (e : ℕ × Evidence). e.0) (take i named) (get_or named i entry ∷ [])
+    ∙ ap (λ (e : ℕ × Evidence). numbers_of (take i named) ++ e.0 ∷ []) (sym at)
+
+-- one more number
+pub filter-more : (p : ℕ → Bool) (xs : List ℕ) (i : ℕ) → i < length xs
+    → filter p (take (i + 1) xs) ≡ filter p (take i xs) ++ cond (p (get_or xs i 0)) (get_or xs i 0 ∷ []) []
+filter-more p xs i lt = ap (filter p) (take_more xs i 0 lt) ∙ filter-append p (take i xs) (get_or xs i 0 ∷ [])
+
+-- a filter of some numbers is not longer
+pub length-filter-le : (p : ℕ → Bool) (xs : List ℕ) → length (filter p xs) ≤ length xs
+length-filter-le p [] = omega arith
+length-filter-le p (x ∷ xs) = by (p x) (length-filter-le p xs)
+  where
+    by : (b : Bool) → length (filter p xs) ≤ length xs → length (cond b (x ∷ filter p xs) (filter p xs)) ≤ length (x ∷ xs)
+    by true le = omega arith
+    by false le = omega arith
+
+-- one more number from zero
+range_more : (a n : ℕ) → range_with_len a (n + 1) ≡ range_with_len a n ++ (a + n) ∷ []
+range_more a zero = let e : a ≡ a + 0 = omega arith in ap (λ (j : ℕ). j ∷ []) e
+range_more a (suc n) =
+    let on : suc n + 1 ≡ suc (n + 1) = omega arith in
+    let last : a + 1 + n ≡ a + suc n = omega arith in
+    ap (range_with_len a) on ∙ ap (λ l. a ∷ l) (range_more (a + 1) n ∙ ap (λ j. range_with_len (a + 1) n ++ j ∷ []) last)
+
+pub filter-range_more : (p : ℕ → Bool) (n : ℕ)
+    → filter p (range_with_len 0 (n + 1)) ≡ filter p (range_with_len 0 n) ++ cond (p n) (n ∷ []) []
+filter-range_more p n =
+    let e : 0 + n ≡ n = omega arith in
+    ap (filter p) (range_more 0 n ∙ ap (λ j. range_with_len 0 n ++ j ∷ []) e) ∙ filter-append p (range_with_len 0 n) (n ∷ [])
+
+-- more numbers pass a test where there are more
+filter-range-le : (p : ℕ → Bool) (a i n : ℕ) → i ≤ n → length (filter p (range_with_len a i)) ≤ length (filter p (range_with_len a n))
+filter-range-le p a zero n le = omega arith
+filter-range-le p a (suc i) zero le = absurd (omega arith)
+filter-range-le p a (suc i) (suc n) le = by (p a) (filter-range-le p (a + 1) i n (omega arith))
+  where
+    by : (b : Bool) → length (filter p (range_with_len (a + 1) i)) ≤ length (filter p (range_with_len (a + 1) n))
+        → length (cond b (a ∷ filter p (range_with_len (a + 1) i)) (filter p (range_with_len (a + 1) i)))
+        ≤ length (cond b (a ∷ filter p (range_with_len (a + 1) n)) (filter p (range_with_len (a + 1) n)))
+    by true rest = omega arith
+    by false rest = rest
+
+-- a number that passes leaves room for it
+pub filter-range_room : (p : ℕ → Bool) (i n : ℕ) → i < n → p i ≡ true
+    → length (filter p (range_with_len 0 i)) < length (filter p (range_with_len 0 n))
+filter-range_room p i n lt passes =
+    let whole : filter p (range_with_len 0 (i + 1)) ≡ filter p (range_with_len 0 i) ++ i ∷ [] =
+    filter-range_more p i ∙ ap (λ b. filter p (range_with_len 0 i) ++ cond b (i ∷ []) []) passes in
+    omega (
+      arith,
+      filter-range-le p 0 (i + 1) n (omega arith),
+      ap length whole,
+      length-append (filter p (range_with_len 0 i)) (i ∷ []),
+    )
+
+-- different numbers below a number are no more than it
+pub few_below : (xs : List ℕ) (n : ℕ) → IsDistinct nat_eq xs → All (λ number. number < n) xs → length xs ≤ n
+few_below xs n distinct low =
+    length-le_from_distinct_below xs n distinct (λ q found.
+    All-contains (λ number. number < n) xs q low (Contains-from_any (λ a b. eqb-true a b) q xs found))
+
+-- the order has at most as many numbers as there are frames
+pub length-order : (frames : List Timed) (members : List ℕ) (own : ℕ) → length frames ≤ 128 → All IsInRange frames
+    → All (λ number. number < length frames) members → IsStrictlyIncreasing members → Contains members own
+    → length (others_of own members) + 1 + length (remaining_of frames members) ≤ length frames
+length-order frames members own few ranges there rises in' =
+    let stage = order_stage frames members own few ranges there (distinct_rising members rises) in' in
+    omega (
+      arith,
+      few_below (order_below frames members own) (length frames) stage.distinct stage.named,
+      length-append (others_of own members) (own ∷ remaining_of frames members),
+    )
+
+-- and no more frames are refuted than there are
+pub length-refuted : (frames : List Timed) (bit hyper : ℕ) (named : List (ℕ × Evidence)) → AreRefuted frames bit hyper named
+    → length named ≤ length frames
+length-refuted frames bit hyper named all =
+    omega (
+      arith,
+      few_below (numbers_of named) (length frames) (distinct_rising (numbers_of named) all.ascending) all.there,
+      length-map named (λ (entry : ℕ × Evidence). entry.0),
+    )
+
+-- a number that is a member is not appended
+pub remaining-skip : (members start numbers : List ℕ) (number : ℕ) → list_any (nat_eq number) members ≡ true
+    → numbers ≡ start ++ filter (λ k. not (list_any (nat_eq k) members)) (range_with_len 0 number)
+    → numbers ≡ start ++ filter (λ k. not (list_any (nat_eq k) members)) (range_with_len 0 (number + 1))
+remaining-skip members start numbers number found so_far =
+    let p : ℕ → Bool = λ k. not (list_any (nat_eq k) members) in
+    let before : List ℕ = filter p (range_with_len 0 number) in
+    let step : filter p (range_with_len 0 (number + 1)) ≡ before =
+    filter-range_more p number ∙ ap (λ b. before ++ cond (not b) (number ∷ []) []) found ∙ append-nil before in
+    so_far ∙ ap (λ ys. start ++ ys) (sym step)
+
+-- and one that isn't is
+pub remaining-push : (members start numbers : List ℕ) (number : ℕ) → list_any (nat_eq number) members ≡ false
+    → numbers ≡ start ++ filter (λ k. not (list_any (nat_eq k) members)) (range_with_len 0 number)
+    → numbers ++ number ∷ [] ≡ start ++ filter (λ k. not (list_any (nat_eq k) members)) (range_with_len 0 (number + 1))
+remaining-push members start numbers number absent so_far =
+    let p : ℕ → Bool = λ k. not (list_any (nat_eq k) members) in
+    let before : List ℕ = filter p (range_with_len 0 number) in
+    let step : filter p (range_with_len 0 (number + 1)) ≡ before ++ number ∷ [] =
+    filter-range_more p number ∙ ap (λ b. before ++ cond (not b) (number ∷ []) []) absent in
+    ap (λ xs. xs ++ number ∷ []) so_far ∙ append_assoc start before (number ∷ []) ∙ ap (λ ys. start ++ ys) (sym step)
+
+-- room for one more of the remaining frames
+pub remaining-room : (frames : List Timed) (members start numbers : List ℕ) (number : ℕ)
+    → length start + length (remaining_of frames members) ≤ 128 → number < length frames
+    → list_any (nat_eq number) members ≡ false
+    → numbers ≡ start ++ filter (λ k. not (list_any (nat_eq k) members)) (range_with_len 0 number)
+    → length numbers < 128
+remaining-room frames members start numbers number room lt absent so_far =
+    let p : ℕ → Bool = λ k. not (list_any (nat_eq k) members) in
+    omega (
+      arith,
+      filter-range_room p number (length frames) lt (ap not absent),
+      ap length so_far,
+      length-append start (filter p (range_with_len 0 number)),
+    )
+
+-- the parts of the order, put together
+pub order-parts : (frames : List Timed) (members : List ℕ) (own : ℕ) (others put all : List ℕ) → others ≡ others_of own members
+    → put ≡ others ++ own ∷ [] → all ≡ put ++ remaining_of frames members → order_below frames members own ≡ all
+order-parts frames members own others put all is then' last =
+    let whole : all ≡ (others_of own members ++ own ∷ []) ++ remaining_of frames members =
+    last ∙ ap (λ xs. xs ++ remaining_of frames members) (then' ∙ ap (λ xs. xs ++ own ∷ []) is) in
+    sym (whole ∙ append_assoc (others_of own members) (own ∷ []) (remaining_of frames members))

@@ -1,0 +1,3 @@
+pub mod Extend
+pub mod Final
+pub mod FinalNamed
