@@ -1,0 +1,11 @@
+pub mod Bounds
+pub mod Bus
+pub mod Covering
+pub mod Failing
+pub mod Follows
+pub mod Laws
+pub mod Loads
+pub mod Rule
+pub mod Solvable
+pub mod Timing
+pub mod Trees

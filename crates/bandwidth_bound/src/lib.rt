@@ -1,13 +1,17 @@
 //! What a certificate can show of a problem and a matrix: the acceptance rule and its verdicts.
 //!
-//! So far these are definitions alone: the parts of the rule by the certificate's kind, the verdict where all hold, the
-//! part that fails first, and what follows from a verdict.
+//! The rule is definitions: its parts by the certificate's kind, the verdict where all hold, the part that
+//! fails first, and what follows from a verdict. The laws say what a tree that stands shows of all groupings.
 #![tactic(auto)]
 
+mod bounds;
+mod covering;
 mod failing;
 mod final_laws;
 mod verdict;
 
+pub use bounds::loads_fit;
+pub use covering::{leaves_cover, shown_is_solvable, standing_trees_claim, standing_trees_hold};
 pub use failing::refutes;
 pub use final_laws::{
     bound_is_below, classes_extend, fail_set_is_final, failing_is_final, failing_sets_grow,

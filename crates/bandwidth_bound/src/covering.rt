@@ -1,0 +1,26 @@
+//! Laws of standing trees: which groupings they cover, and what they show of them.
+ghost use Rattle.bandwidth_bound.specs.Covering.{LeavesCover, MainLeavesCover, NoneIsOpen, ShownIsSolvable, StandingTreesHold, TreesClaim};
+
+/// In a tree that stands, each legal grouping that extends its place extends the place of exactly one leaf.
+pub fn leaves_cover()
+    ensures any { LeavesCover }
+    ensures main { MainLeavesCover }
+{}
+
+/// A grouping that can meet all deadlines and extends the place of a standing tree has at least the best's
+/// load or extends the place of an open leaf. Where no leaf may be left open, none is.
+pub fn standing_trees_claim()
+    ensures claim { TreesClaim }
+    ensures closed { NoneIsOpen }
+{}
+
+/// Where the acceptance rule holds, the trees show what the certificate's kind says of all groupings.
+pub fn standing_trees_hold()
+    ensures { StandingTreesHold }
+{}
+
+/// Where the acceptance rule holds of a kind that speaks of times, the matrix's grouping can meet all
+/// deadlines.
+pub fn shown_is_solvable()
+    ensures { ShownIsSolvable }
+{}
