@@ -2,6 +2,5 @@ pub mod BusLaws
 pub mod Found
 pub mod KindLaws
 pub mod Lines
-pub mod Loads
 pub mod Nexts
 pub mod Walks

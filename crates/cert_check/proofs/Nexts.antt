@@ -1,7 +1,7 @@
 -- One node of a walk.
 use Rattle.std.proofs.Common.{◌≡◌, ℕ, Bool, true, false, List, [], ◌∷◌, ◌++◌, cond, refl, sym, ap, subst, ◌∙◌, true≢false, append-nil, IsTrue}
 use Rattle.std.proofs.lemmas.Bool.{false≢true}
-use Rattle.std.specs.Prelude.{◌↔◌, Option, None, Some}
+use Rattle.std.specs.Prelude.{◌↔◌, not}
 use Rattle.pack_model.specs.Problem.{Parts}
 use Rattle.grouping_tree.specs.Grouped.{labels_of}
 use Rattle.grouping_tree.specs.Walk.{places_left}
@@ -53,3 +53,8 @@ said b P e iff = iff.0 e
 
 pub denied : (b : Bool) (P : Type 0) → b ≡ false → (IsTrue b ↔ P) → ¬ P
 denied b P e iff = λ p. false≢true (sym e ∙ iff.1 p)
+
+-- the places to come after a leaf
+pub passed : (went : Bool) (rest there : List (List ℕ)) → (went ≡ true → rest ≡ there) → (went ≡ false → rest ≡ []) → cond (not went) [] there ≡ rest
+passed true rest there next none = sym (next refl)
+passed false rest there next none = sym (none refl)

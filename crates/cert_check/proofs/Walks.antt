@@ -1,8 +1,9 @@
 -- Walks over nodes, one after the other, and over the nodes of a tree.
-use Rattle.std.proofs.Common.{◌≡◌, ◌<◌, ℕ, zero, suc, Bool, true, false, List, [], ◌∷◌, ◌++◌, length, map, get_or, take, ◌+◌, Option, None, Some, refl, sym, ap, subst, ◌∙◌, arith, true≢false, append_assoc, min}
+use Rattle.std.proofs.Common.{◌≡◌, ◌<◌, ℕ, zero, suc, Bool, true, false, List, [], ◌∷◌, ◌++◌, length, map, get_or, take, ◌+◌, Option, None, Some, refl, sym, ap, subst, ◌∙◌, arith, true≢false, append_assoc, min, fold, ◌≤◌}
 use Rattle.std.proofs.lemmas.List.{flat_map_more, length-map, map-append, take_more}
 use Rattle.std.proofs.lemmas.List.Folds.{flat_map-map}
 use Rattle.std.specs.List.{flat_map}
+use Rattle.class_frame.specs.Frame.{least}
 use Rattle.cert_text.specs.PlainTree.{onto}
 use Rattle.cert_text.specs.Trees.{Plain, Plains, bound, fail, inner, left, more, none}
 use Rattle.response_test.specs.declared.evidence.Evidence.{Evidence}
@@ -220,3 +221,30 @@ module _ (goal : Goal) where
         let one : TreeStands goal here t = stood here later t (stand_first goal (here ∷ later) (nodes_of t) (nodes_of_each ts) h) in
         (one, stood_each p labels rest ts (omega (arith, e))
         (subst (λ ps. NodesStand goal ps (nodes_of_each ts)) (walked here later t one).after (stand_further goal (here ∷ later) (nodes_of t) (nodes_of_each ts) h)))
+
+-- ---- a walk over a whole tree
+
+-- the least of some numbers, as a walk finds it
+lowered_some : (n : ℕ) (xs : List ℕ) → lowered (Some n) xs ≡ Some (fold min n xs)
+lowered_some n [] = refl
+lowered_some n (x ∷ xs) = lowered_some (min n x) xs
+
+pub lowered_least : (xs : List ℕ) → 1 ≤ length xs → lowered None xs ≡ Some (least xs)
+lowered_least [] some = absurd (omega arith)
+lowered_least (x ∷ xs) some = lowered_some x xs
+
+pub lowered_none : (xs : List ℕ) → lowered None xs ≡ None → ¬ (1 ≤ length xs)
+lowered_none xs none some = let e : Some (least xs) ≡ None = sym (lowered_least xs some) ∙ none in absurd cc
+
+module _ (goal : Goal) (tree : Plain) (after : Way)
+    (takes : Takes goal (record { failed = false; places = [] ∷ []; least = None }) after (nodes_of tree)) where
+  -- it fails exactly where the tree doesn't stand
+  pub tree_fails : after.failed ≡ true → ¬ TreeStands goal [] tree
+  tree_fails failed stands = takes.fails refl failed (walked goal [] [] tree stands).stand
+
+  pub tree_stands : after.failed ≡ false → TreeStands goal [] tree
+  tree_stands kept = stood goal [] [] tree (takes.stands kept)
+
+  -- and finds the least bound at the tree's open leaves
+  pub tree_least : after.failed ≡ false → after.least ≡ lowered None (map goal.lower8 (open_places goal.items [] tree))
+  tree_least kept = takes.least kept ∙ ap (lowered None) (walked goal [] [] tree (tree_stands kept)).opens

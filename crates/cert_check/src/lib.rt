@@ -6,6 +6,7 @@
 
 mod check;
 mod fault;
+mod frames;
 mod kinds;
 mod timing;
 mod tree;

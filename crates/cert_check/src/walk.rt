@@ -1,11 +1,14 @@
 //! The walk over the nodes of a tree.
 ghost use Rattle.std.specs.Prelude.{◌≡◌, ◌∷◌, [], ℕ, ◌↔◌, IfOk, IsTrue, Some};
+ghost use Rattle.bandwidth_bound.specs.Bounds.{lower8_of};
+ghost use Rattle.bandwidth_bound.specs.Rule.{ClassesFail};
 ghost use Rattle.grouping_tree.specs.Grouped.{labels_of};
 ghost use Rattle.cert_check.specs.Nodes.{lowered, inner_node, bound_leaf, open_leaf, fail_leaf};
 ghost use Rattle.cert_check.specs.Walk.{HasPlace, IsWalk, Passes, StandsNext, TakesOne, start, way_of};
 
-use bandwidth_bound::{lower8, refutes};
-use busy_period::Timed;
+use crate::frames::frames_at;
+use bandwidth_bound::refutes;
+use class_frame::load_of_frames;
 use grouping_tree::Partial;
 use pack_model::{Memory, Problem};
 use response_test::Evidence;
@@ -79,6 +82,25 @@ impl Walk {
         !self.failed && !self.over
     }
 
+    /// The lower bound at the place, in eighths of ticks a common period.
+    fn lower8(&self, problem: &Problem) -> u128
+        requires { IsWalk problem.now self.now }
+        ensures { result ≡ lower8_of problem.now problem.now.items (labels_of self.now.partial) }
+    {
+        let frames = frames_at(&self.partial);
+        8 * load_of_frames(&frames[..self.partial.classes() as usize], problem.hyper())
+    }
+
+    /// Whether the classes that are named with evidence are refuted at the place.
+    fn refutes(&self, problem: &Problem, named: &[(u32, Evidence)]) -> bool
+        requires { IsWalk problem.now self.now }
+        ensures { IsTrue result ↔ ClassesFail problem.now (labels_of self.now.partial) named.now }
+    {
+        let frames = frames_at(&self.partial);
+        let bit = u64::from(problem.network().nominal_ticks);
+        refutes(&frames[..self.partial.classes() as usize], bit, problem.hyper(), named)
+    }
+
     /// Whether an inner node with so many subtrees stands at the next place.
     fn inner_stands(&self, problem: &Problem, aim: Aim, subtrees: usize) -> bool
         requires { IsWalk problem.now self.now }
@@ -96,7 +118,7 @@ impl Walk {
     {
         match aim.value {
             None => false,
-            Some(value) => self.has_place() && value <= lower8(&self.partial, problem),
+            Some(value) => self.has_place() && value <= self.lower8(problem),
         }
     }
 
@@ -112,7 +134,7 @@ impl Walk {
         requires { IsWalk problem.now self.now }
         ensures { IsTrue result ↔ StandsNext problem.now aim self.now (fail_leaf named.now) }
     {
-        self.has_place() && refutes(&self.partial, problem, named)
+        self.has_place() && self.refutes(problem, named)
     }
 
     /// Goes on from a leaf that stands.
@@ -122,9 +144,7 @@ impl Walk {
         ensures walks { IsWalk problem.now self.new }
         ensures passes { Passes problem.now self.old self.new }
     {
-        if !self.partial.leave(problem, 0) {
-            self.over = true;
-        }
+        self.over = !self.partial.leave(problem, 0);
     }
 
     /// Takes an inner node with so many subtrees.
@@ -163,7 +183,7 @@ impl Walk {
             self.failed = true;
             return;
         }
-        let bound = lower8(&self.partial, problem);
+        let bound = self.lower8(problem);
         self.pass(problem);
         self.least = Some(least_with(self.least, bound));
     }

@@ -20,5 +20,7 @@ returns-clause-takes c =
     let new : List ℕ = labels_of c.enter.new.self in
     node_taken c.args.problem.now c.args.aim c.args.self.now (record c.args.self.now { partial = c.enter.new.self }) (inner_node c.args.subtrees) here refl
     (ap (λ over. cond over [] (new ∷ places_left c.args.problem.now.items 0 new)) here.0.1
-    ∙ sym (subst (λ items. places_below items old ++ places_left items 0 old ≡ new ∷ places_left items 0 new) c.requires.whole (c.enter.ensures.places 0 (omega arith))))
+    ∙ ap (λ items. new ∷ places_left items 0 new) (sym (c.enter.ensures.range ∙ c.requires.whole))
+    ∙ c.enter.ensures.places 0 (omega arith)
+    ∙ ap (λ items. places_below items old ++ places_left items 0 old) c.requires.whole)
     refl
