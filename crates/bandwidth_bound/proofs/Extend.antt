@@ -13,15 +13,15 @@ use Rattle.pack_model.proofs.ItemFacts.{IsItemOf, items_of_signals}
 use Rattle.pack_model.proofs.ProblemItems.{of_problem}
 use Rattle.busy_period.specs.declared.timed.Timed.{Timed}
 use Rattle.busy_period.specs.Timed.{IsInRange}
+use Rattle.busy_period.specs.Harder.{IsHarder}
 use Rattle.class_frame.specs.Classes.{frames_of_classes, load_of}
 use Rattle.class_frame.specs.Frame.{bytes_of_items, timed_of_items, load_of_items}
-use Rattle.class_frame.specs.Grouping.{class_of, classes_of}
-use Rattle.class_frame.specs.Laws.{HasSignal, IsHarder}
+use Rattle.class_frame.specs.Grouping.{AreFirstLabels, class_of, classes_of}
+use Rattle.class_frame.specs.Laws.{HasSignal}
 use Rattle.class_frame.specs.Legal.{IsLegal}
-use Rattle.class_frame.proofs.GroupingLaws.{All-class_of, class_of-some, used}
 use Rattle.class_frame.proofs.Harder.{more_is_harder}
 use Rattle.class_frame.proofs.Ranges.{frame_in_range}
-use Rattle.class_frame.proofs.Used.{items_have_signal}
+use Rattle.class_frame.proofs.Used.{front_has_signal}
 use Rattle.grouping_tree.specs.Partial.{IsPartial, begins}
 use Rattle.grouping_tree.proofs.Classes.{class-append}
 use Rattle.grouping_tree.proofs.Fronts.{begins-is, legal-partial}
@@ -45,51 +45,64 @@ pub classes_stay : (p q : List ℕ) → begins p q ≡ true → classes_of p ≤
 classes_stay p q e = omega (arith, classes_of-front p (drop (length p) q), ap classes_of (begins-is p q e))
 
 -- items of a problem have signals
-are_items : (problem : Parts) → IsProblem problem → (items : List Item) → AreOf problem items → All (IsItemOf problem.signals) items
+pub are_items : (problem : Parts) → IsProblem problem → (items : List Item) → AreOf problem items
+    → All (IsItemOf problem.signals) items
 are_items problem stands items of =
+    let order : List Item = items_in_order problem.signals in
     let all : All (IsItemOf problem.signals) problem.items =
     of_problem problem stands (IsItemOf problem.signals)
-    (items_of_signals problem.signals (items_in_order problem.signals) (IsPermutation-refl (items_in_order problem.signals))) in
+    (items_of_signals problem.signals order (IsPermutation-refl order)) in
     All-weaker (Contains problem.items) (IsItemOf problem.signals)
     (λ item in'. All-contains (IsItemOf problem.signals) problem.items item all in') items of
+
+-- a partial grouping's labels are those of the first items
+pub first_labels : (items : List Item) (p : List ℕ) → IsPartial items p → AreFirstLabels items p
+first_labels items p partial = record { within = partial.within; by_first_use = partial.by_first_use }
 
 -- and so has each class of a partial grouping of them
 pub class_signal : (problem : Parts) → IsProblem problem → (items : List Item) → AreOf problem items
     → (p : List ℕ) → IsPartial items p → (label : ℕ) → label < classes_of p
     → HasSignal problem (class_of label p items)
 class_signal problem stands items of p partial label low =
-    let (k, lt, at) = used p partial.by_first_use label low in
-    items_have_signal problem (class_of label p items)
-    (class_of-some label p items k lt (omega (arith, lt, partial.within)) at)
-    (All-class_of (IsItemOf problem.signals) label p items (are_items problem stands items of))
+    front_has_signal problem items p label (are_items problem stands items of)
+    (first_labels items p partial) low
 
 -- the frame of a label
-pub frame-class : (problem : Parts) (items : List Item) (p : List ℕ) (label : ℕ) (d : Timed) → label < classes_of p
+pub frame-class : (problem : Parts) (items : List Item) (p : List ℕ) (label : ℕ) (d : Timed)
+    → label < classes_of p
     → get_or (frames_of_classes problem items p) label d ≡ timed_of_items problem (class_of label p items)
 frame-class problem items p label d low =
-    get_or-map-range_with_len (λ k. timed_of_items problem (class_of k p items)) 0 (classes_of p) label label d low (omega arith)
+    get_or-map-range_with_len (λ k. timed_of_items problem (class_of k p items))
+    0 (classes_of p) label label d low (omega arith)
 
 -- there are as many frames as classes
-pub length-frames : (problem : Parts) (items : List Item) (p : List ℕ) → length (frames_of_classes problem items p) ≡ classes_of p
-length-frames problem items p = length-map-range_with_len (λ k. timed_of_items problem (class_of k p items)) 0 (classes_of p)
+pub length-frames : (problem : Parts) (items : List Item) (p : List ℕ)
+    → length (frames_of_classes problem items p) ≡ classes_of p
+length-frames problem items p =
+    length-map-range_with_len (λ k. timed_of_items problem (class_of k p items)) 0 (classes_of p)
 
 -- a class of a partial grouping is a frame in range
 pub class_in_range : (problem : Parts) → IsProblem problem → (items : List Item) → AreOf problem items
     → (p : List ℕ) → IsPartial items p → (label : ℕ) → label < classes_of p
     → IsInRange (timed_of_items problem (class_of label p items))
 class_in_range problem stands items of p partial label low =
-    frame_in_range problem (class_of label p items) stands (class_signal problem stands items of p partial label low)
+    frame_in_range problem (class_of label p items) stands
+    (class_signal problem stands items of p partial label low)
 
 -- with more labels a class is a harder frame
 pub class_harder : (problem : Parts) → IsProblem problem → (items : List Item) → AreOf problem items
-    → (p q : List ℕ) → IsPartial items p → IsPartial items q → begins p q ≡ true → (label : ℕ) → label < classes_of p
-    → IsHarder (timed_of_items problem (class_of label p items)) (timed_of_items problem (class_of label q items))
+    → (p q : List ℕ) → IsPartial items p → IsPartial items q → begins p q ≡ true
+    → (label : ℕ) → label < classes_of p
+    → IsHarder (timed_of_items problem (class_of label p items))
+    (timed_of_items problem (class_of label q items))
 class_harder problem stands items of p q partial further e label low =
     let (more, is) = classes_extend items p q e label in
     let here : List Item = class_of label p items in
-    let small : bytes_of_items (here ++ more) ≤ 64 = subst (λ ys. bytes_of_items ys ≤ 64) is (further.classes label).small in
+    let small : bytes_of_items (here ++ more) ≤ 64 =
+    subst (λ ys. bytes_of_items ys ≤ 64) is (further.classes label).small in
     let it : IsHarder (timed_of_items problem here) (timed_of_items problem (here ++ more)) =
-    more_is_harder problem here more (class_signal problem stands items of p partial label low) small in
+    more_is_harder problem here more stands (class_signal problem stands items of p partial label low)
+    small in
     subst (λ ys. IsHarder (timed_of_items problem here) (timed_of_items problem ys)) (sym is) it
 
 -- a quotient never falls as the divisor falls
@@ -104,13 +117,12 @@ div-rises a b c some le =
 
 -- the load of a class never falls as items are put
 load-class : (problem : Parts) → IsProblem problem → (items : List Item) → AreOf problem items
-    → (p q : List ℕ) → IsPartial items p → IsPartial items q → begins p q ≡ true → (label : ℕ) → label < classes_of p
+    → (p q : List ℕ) → IsPartial items p → IsPartial items q → begins p q ≡ true
+    → (label : ℕ) → label < classes_of p
     → load_of_items problem (class_of label p items) ≤ load_of_items problem (class_of label q items)
 load-class problem stands items of p q partial further e label low =
     let it = class_harder problem stands items of p q partial further e label low in
-    let there : label < classes_of q = omega (arith, low, classes_stay p q e) in
-    let range = class_in_range problem stands items of q further label there in
-    mul-le-mul it.ticks (div-rises problem.hyper _ _ range.some_period it.period)
+    mul-le-mul it.ticks (div-rises problem.hyper _ _ it.some_period it.period)
 
 -- a sum over more numbers, with no term less
 sum_by-range : (f g : ℕ → ℕ) (a n m : ℕ) → n ≤ m → ((x : ℕ) → x < a + n → f x ≤ g x)
@@ -131,7 +143,8 @@ pub loads_never_fall : (problem : Parts) → IsProblem problem → (items : List
     → (p q : List ℕ) → IsPartial items p → IsPartial items q → begins p q ≡ true
     → load_of problem items p ≤ load_of problem items q
 loads_never_fall problem stands items of p q partial further e =
-    sum_by-range (λ label. load_of_items problem (class_of label p items)) (λ label. load_of_items problem (class_of label q items))
+    sum_by-range (λ label. load_of_items problem (class_of label p items))
+    (λ label. load_of_items problem (class_of label q items))
     0 (classes_of p) (classes_of q) (classes_stay p q e)
     (λ label low. load-class problem stands items of p q partial further e label (omega arith))
 

@@ -15,24 +15,13 @@ use Rattle.response_test.specs.Order.{others_of, remaining_of}
 use Rattle.bandwidth_bound.specs.Failing.{AreRefuted, numbers_of, order_below}
 use Rattle.bandwidth_bound.proofs.Final.{distinct_rising, order_stage}
 
--- one more entry
-pub numbers-more : (named : List (ℕ × Evidence)) (i : ℕ) (entry : ℕ × Evidence) → i < length named → entry ≡ get_or named i entry
-    → numbers_of (take (i + 1) named) ≡ numbers_of (take i named) ++ entry.0 ∷ []
-numbers-more named i entry lt at =
-    ap numbers_of (take_more named i entry lt) ∙ map-append (λ (e : ℕ × Evidence). e.0) (take i named) (get_or named i entry ∷ [])
-    ∙ ap (λ (e : ℕ × Evidence). numbers_of (take i named) ++ e.0 ∷ []) (sym at)
-
--- one more number
-pub filter-more : (p : ℕ → Bool) (xs : List ℕ) (i : ℕ) → i < length xs
-    → filter p (take (i + 1) xs) ≡ filter p (take i xs) ++ cond (p (get_or xs i 0)) (get_or xs i 0 ∷ []) []
-filter-more p xs i lt = ap (filter p) (take_more xs i 0 lt) ∙ filter-append p (take i xs) (get_or xs i 0 ∷ [])
-
 -- a filter of some numbers is not longer
 pub length-filter-le : (p : ℕ → Bool) (xs : List ℕ) → length (filter p xs) ≤ length xs
 length-filter-le p [] = omega arith
 length-filter-le p (x ∷ xs) = by (p x) (length-filter-le p xs)
   where
-    by : (b : Bool) → length (filter p xs) ≤ length xs → length (cond b (x ∷ filter p xs) (filter p xs)) ≤ length (x ∷ xs)
+    by : (b : Bool) → length (filter p xs) ≤ length xs
+        → length (cond b (x ∷ filter p xs) (filter p xs)) ≤ length (x ∷ xs)
     by true le = omega arith
     by false le = omega arith
 
@@ -42,21 +31,25 @@ range_more a zero = let e : a ≡ a + 0 = omega arith in ap (λ (j : ℕ). j ∷
 range_more a (suc n) =
     let on : suc n + 1 ≡ suc (n + 1) = omega arith in
     let last : a + 1 + n ≡ a + suc n = omega arith in
-    ap (range_with_len a) on ∙ ap (λ l. a ∷ l) (range_more (a + 1) n ∙ ap (λ j. range_with_len (a + 1) n ++ j ∷ []) last)
+    ap (range_with_len a) on
+    ∙ ap (λ l. a ∷ l) (range_more (a + 1) n ∙ ap (λ j. range_with_len (a + 1) n ++ j ∷ []) last)
 
 pub filter-range_more : (p : ℕ → Bool) (n : ℕ)
     → filter p (range_with_len 0 (n + 1)) ≡ filter p (range_with_len 0 n) ++ cond (p n) (n ∷ []) []
 filter-range_more p n =
     let e : 0 + n ≡ n = omega arith in
-    ap (filter p) (range_more 0 n ∙ ap (λ j. range_with_len 0 n ++ j ∷ []) e) ∙ filter-append p (range_with_len 0 n) (n ∷ [])
+    ap (filter p) (range_more 0 n ∙ ap (λ j. range_with_len 0 n ++ j ∷ []) e)
+    ∙ filter-append p (range_with_len 0 n) (n ∷ [])
 
 -- more numbers pass a test where there are more
-filter-range-le : (p : ℕ → Bool) (a i n : ℕ) → i ≤ n → length (filter p (range_with_len a i)) ≤ length (filter p (range_with_len a n))
+filter-range-le : (p : ℕ → Bool) (a i n : ℕ) → i ≤ n
+    → length (filter p (range_with_len a i)) ≤ length (filter p (range_with_len a n))
 filter-range-le p a zero n le = omega arith
 filter-range-le p a (suc i) zero le = absurd (omega arith)
 filter-range-le p a (suc i) (suc n) le = by (p a) (filter-range-le p (a + 1) i n (omega arith))
   where
-    by : (b : Bool) → length (filter p (range_with_len (a + 1) i)) ≤ length (filter p (range_with_len (a + 1) n))
+    by : (b : Bool)
+        → length (filter p (range_with_len (a + 1) i)) ≤ length (filter p (range_with_len (a + 1) n))
         → length (cond b (a ∷ filter p (range_with_len (a + 1) i)) (filter p (range_with_len (a + 1) i)))
         ≤ length (cond b (a ∷ filter p (range_with_len (a + 1) n)) (filter p (range_with_len (a + 1) n)))
     by true rest = omega arith
@@ -82,11 +75,13 @@ few_below xs n distinct low =
     All-contains (λ number. number < n) xs q low (Contains-from_any (λ a b. eqb-true a b) q xs found))
 
 -- the order has at most as many numbers as there are frames
-pub length-order : (frames : List Timed) (members : List ℕ) (own : ℕ) → length frames ≤ 128 → All IsInRange frames
+pub length-order : (frames : List Timed) (members : List ℕ) (own : ℕ)
+    → length frames ≤ 128 → All IsInRange frames
     → All (λ number. number < length frames) members → IsStrictlyIncreasing members → Contains members own
     → length (others_of own members) + 1 + length (remaining_of frames members) ≤ length frames
 length-order frames members own few ranges there rises in' =
-    let stage = order_stage frames members own few ranges there (distinct_rising members rises) in' in
+    let stage : IsStage frames (order_below frames members own) (length (others_of own members)) =
+    order_stage frames members own few ranges there (distinct_rising members rises) in' in
     omega (
       arith,
       few_below (order_below frames members own) (length frames) stage.distinct stage.named,
@@ -94,12 +89,13 @@ length-order frames members own few ranges there rises in' =
     )
 
 -- and no more frames are refuted than there are
-pub length-refuted : (frames : List Timed) (bit hyper : ℕ) (named : List (ℕ × Evidence)) → AreRefuted frames bit hyper named
-    → length named ≤ length frames
+pub length-refuted : (frames : List Timed) (bit hyper : ℕ) (named : List (ℕ × Evidence))
+    → AreRefuted frames bit hyper named → length named ≤ length frames
 length-refuted frames bit hyper named all =
+    let members : List ℕ = numbers_of named in
     omega (
       arith,
-      few_below (numbers_of named) (length frames) (distinct_rising (numbers_of named) all.ascending) all.there,
+      few_below members (length frames) (distinct_rising members all.ascending) all.there,
       length-map named (λ (entry : ℕ × Evidence). entry.0),
     )
 
@@ -111,19 +107,22 @@ remaining-skip members start numbers number found so_far =
     let p : ℕ → Bool = λ k. not (list_any (nat_eq k) members) in
     let before : List ℕ = filter p (range_with_len 0 number) in
     let step : filter p (range_with_len 0 (number + 1)) ≡ before =
-    filter-range_more p number ∙ ap (λ b. before ++ cond (not b) (number ∷ []) []) found ∙ append-nil before in
+    filter-range_more p number ∙ ap (λ b. before ++ cond (not b) (number ∷ []) []) found
+    ∙ append-nil before in
     so_far ∙ ap (λ ys. start ++ ys) (sym step)
 
 -- and one that isn't is
 pub remaining-push : (members start numbers : List ℕ) (number : ℕ) → list_any (nat_eq number) members ≡ false
     → numbers ≡ start ++ filter (λ k. not (list_any (nat_eq k) members)) (range_with_len 0 number)
-    → numbers ++ number ∷ [] ≡ start ++ filter (λ k. not (list_any (nat_eq k) members)) (range_with_len 0 (number + 1))
+    → numbers ++ number ∷ []
+    ≡ start ++ filter (λ k. not (list_any (nat_eq k) members)) (range_with_len 0 (number + 1))
 remaining-push members start numbers number absent so_far =
     let p : ℕ → Bool = λ k. not (list_any (nat_eq k) members) in
     let before : List ℕ = filter p (range_with_len 0 number) in
     let step : filter p (range_with_len 0 (number + 1)) ≡ before ++ number ∷ [] =
     filter-range_more p number ∙ ap (λ b. before ++ cond (not b) (number ∷ []) []) absent in
-    ap (λ xs. xs ++ number ∷ []) so_far ∙ append_assoc start before (number ∷ []) ∙ ap (λ ys. start ++ ys) (sym step)
+    ap (λ xs. xs ++ number ∷ []) so_far ∙ append_assoc start before (number ∷ [])
+    ∙ ap (λ ys. start ++ ys) (sym step)
 
 -- room for one more of the remaining frames
 pub remaining-room : (frames : List Timed) (members start numbers : List ℕ) (number : ℕ)
@@ -141,8 +140,9 @@ remaining-room frames members start numbers number room lt absent so_far =
     )
 
 -- the parts of the order, put together
-pub order-parts : (frames : List Timed) (members : List ℕ) (own : ℕ) (others put all : List ℕ) → others ≡ others_of own members
-    → put ≡ others ++ own ∷ [] → all ≡ put ++ remaining_of frames members → order_below frames members own ≡ all
+pub order-parts : (frames : List Timed) (members : List ℕ) (own : ℕ) (others put all : List ℕ)
+    → others ≡ others_of own members → put ≡ others ++ own ∷ [] → all ≡ put ++ remaining_of frames members
+    → order_below frames members own ≡ all
 order-parts frames members own others put all is then' last =
     let whole : all ≡ (others_of own members ++ own ∷ []) ++ remaining_of frames members =
     last ∙ ap (λ xs. xs ++ remaining_of frames members) (then' ∙ ap (λ xs. xs ++ own ∷ []) is) in

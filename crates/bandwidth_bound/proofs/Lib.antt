@@ -1,6 +1,7 @@
 pub mod Covers
 pub mod Extend
 pub mod Final
+pub mod FinalChecks
 pub mod FinalNamed
 pub mod Loads
 pub mod Shown

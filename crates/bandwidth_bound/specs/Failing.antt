@@ -1,4 +1,4 @@
--- Evidence against some frames of a network, that none of them passes the written test below the others: the project's own.
+-- Evidence against some frames of a network, that none of them passes below the others: the project's own.
 use Rattle.std.specs.Prelude.{ℕ, ◌<◌, ◌≤◌, ◌++◌, List, ◌∷◌, length, map, All}
 use Rattle.std.specs.List.Sorted.{IsStrictlyIncreasing}
 use Rattle.busy_period.specs.declared.timed.Timed.{Timed}
@@ -19,7 +19,7 @@ RefutedBelow frames bit hyper members own evidence =
 abbrev pub numbers_of : List (ℕ × Evidence) → List ℕ
 numbers_of named = map (λ entry. entry.0) named
 
--- frames are named by ascending number, at least one, each with evidence that refutes it below the others that are named
+-- frames are named by ascending number, at least one, each with evidence that refutes it below the other ones
 pub record AreRefuted (frames : List Timed) (bit hyper : ℕ) (named : List (ℕ × Evidence)) : Type 0 where
   pub some : 1 ≤ length named
   pub there : All (λ number. number < length frames) (numbers_of named)

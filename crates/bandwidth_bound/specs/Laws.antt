@@ -1,4 +1,4 @@
--- Laws of partial groupings as items are put: classes only extend, loads never fall, and failing sets stay failing. They are the project's own.
+-- Laws of partial groupings as items are put: no load falls, and a failing set stays one. The project's own.
 use Rattle.std.specs.Prelude.{◌≡◌, ◌≤◌, ◌*◌, ◌++◌, ℕ, true, List, length, All, Contains}
 use Rattle.pack_model.specs.declared.item.Item.{Item}
 use Rattle.pack_model.specs.Problem.{Parts, IsProblem}
@@ -58,7 +58,8 @@ FailingSetsGrow = (problem : Parts) → IsProblem problem → (items : List Item
 abbrev pub FailSetIsFinal : Type 0
 FailSetIsFinal = (problem : Parts) → IsProblem problem → (p q : List ℕ) (members : List ℕ)
     → IsPartial problem.items p → IsLegal problem.items q → begins p q ≡ true
-    → FailSet (frames_of_classes problem problem.items p) problem.network.nominal_ticks members → ¬ (Solvable problem q)
+    → FailSet (frames_of_classes problem problem.items p) problem.network.nominal_ticks members
+    → ¬ (Solvable problem q)
 
 -- nor can one that extends a partial one with classes that are refuted
 abbrev pub FailingIsFinal : Type 0

@@ -1,5 +1,5 @@
-//! Whether frames that are named with evidence are refuted: each below the others that are named, and above all
-//! remaining ones.
+//! Whether frames that are named with evidence are refuted: each below the others that are named, and above
+//! all remaining ones.
 ghost use Rattle.std.specs.Prelude.{◌≡◌, ◌+◌, ◌<◌, ◌≤◌, ◌++◌, ◌↔◌, All, Contains, IsTrue, length, map, nat_eq};
 ghost use Rattle.std.specs.List.{list_any};
 ghost use Rattle.std.specs.List.Sorted.{IsStrictlyIncreasing};
@@ -103,9 +103,10 @@ fn is_refuted(
     refuted(frames, order.as_slice(), place, bit, hyper, evidence)
 }
 
-/// Whether frames are named by ascending number, at least one, each with evidence that refutes it below the others that
-/// are named and above all remaining ones: then they are a failing set. `bit` is the time of a nominal bit in ticks,
-/// `hyper` a common period of the frames in ticks. It reads the numbers of the evidence, and searches nothing.
+/// Whether frames are named by ascending number, at least one, each with evidence that refutes it below the
+/// others that are named and above all remaining ones: then they are a failing set. `bit` is the time of a
+/// nominal bit in ticks, `hyper` a common period of the frames in ticks. It takes no memory, reads the
+/// numbers of the evidence, and searches nothing.
 pub fn refutes(frames: &[Timed], bit: u64, hyper: u64, named: &[(u32, Evidence)]) -> bool
     requires few { length frames.now ≤ 128 }
     requires in_range { All IsInRange frames.now }

@@ -17,7 +17,8 @@ pub fn bound_is_below()
     ensures { BoundIsBelow }
 {}
 
-/// Frames that are refuted, each with the others of them higher and all remaining ones lower, are a failing set.
+/// Frames that are refuted, each with the others of them higher and all remaining ones lower, are a failing
+/// set.
 pub fn refuted_is_failing()
     ensures { RefutedIsFailing }
 {}
@@ -27,14 +28,14 @@ pub fn failing_sets_grow()
     ensures { FailingSetsGrow }
 {}
 
-/// Where classes of a partial grouping are a failing set, no legal grouping that extends it has an order in which each
-/// frame passes.
+/// Where classes of a partial grouping are a failing set, no legal grouping that extends it has an order in
+/// which each frame passes.
 pub fn fail_set_is_final()
     ensures { FailSetIsFinal }
 {}
 
-/// Where classes of a partial grouping are refuted, no legal grouping that extends it has an order in which each frame
-/// passes.
+/// Where classes of a partial grouping are refuted, no legal grouping that extends it has an order in which
+/// each frame passes.
 pub fn failing_is_final()
     ensures { FailingIsFinal }
 {}

@@ -1,12 +1,16 @@
 //! What a certificate can show of a problem and a matrix: the acceptance rule and its verdicts.
 //!
 //! The rule is definitions: its parts by the certificate's kind, the verdict where all hold, the part that
-//! fails first, and what follows from a verdict. The laws say what a tree that stands shows of all groupings.
+//! fails first, and what follows from a verdict. The laws say what a tree that stands shows of all groupings,
+//! that no load falls as items are put, and that a failing set is final. `refutes` judges evidence against
+//! some frames by its numbers.
 #![tactic(auto)]
 
 mod bounds;
 mod covering;
 mod failing;
+#[cfg(test)]
+mod failing_tests;
 mod final_laws;
 mod verdict;
 

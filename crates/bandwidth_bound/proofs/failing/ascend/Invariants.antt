@@ -1,5 +1,5 @@
 use Rattle.std.proofs.Common.{ℕ, ◌+◌, ◌<◌, get_or}
-use Rattle.final_trial.proofs.failing.ascend.Given as goal
+use Rattle.bandwidth_bound.proofs.failing.ascend.Given as goal
 
 abbrev pub invariant-loop-k : goal.invariant-loop-k
 invariant-loop-k l = (i : ℕ) → i + 1 < l.k → get_or l.members i 0 < get_or l.members (i + 1) 0

@@ -1,8 +1,10 @@
 use Rattle.std.proofs.Common.{◌≡◌, ◌++◌, filter, nat_eq}
 use Rattle.std.specs.Prelude.{not}
 use Rattle.std.specs.List.{list_any, range_with_len}
-use Rattle.final_trial.proofs.failing.push_remaining.Given as goal
+use Rattle.bandwidth_bound.proofs.failing.push_remaining.Given as goal
 
 abbrev pub invariant-loop-number : goal.invariant-loop-number
 invariant-loop-number l =
-    l.order.items ≡ l.initial.order.items ++ filter (λ number. not (list_any (nat_eq number) l.members)) (range_with_len 0 l.number)
+    l.order.items
+    ≡ l.initial.order.items
+    ++ filter (λ number. not (list_any (nat_eq number) l.members)) (range_with_len 0 l.number)

@@ -1,7 +1,7 @@
 use Rattle.std.proofs.Common.{ℕ, ◌<◌, get_or}
 use Rattle.response_test.specs.declared.evidence.Evidence.{Evidence}
-use Rattle.final_trial.specs.Failing.{RefutedBelow, numbers_of}
-use Rattle.final_trial.proofs.failing.refutes.Given as goal
+use Rattle.bandwidth_bound.specs.Failing.{RefutedBelow, numbers_of}
+use Rattle.bandwidth_bound.proofs.failing.refutes.Given as goal
 
 abbrev pub invariant-loop-own : goal.invariant-loop-own
 invariant-loop-own l = (k : ℕ) (d : ℕ × Evidence) → k < l.own-index
