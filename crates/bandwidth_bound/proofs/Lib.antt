@@ -1,5 +1,6 @@
 pub mod Covers
 pub mod Extend
+pub mod FailLeaves
 pub mod Final
 pub mod FinalChecks
 pub mod FinalNamed

@@ -27,8 +27,8 @@ frame_load ticks period hyper some few short =
     let most : ticks * times ≤ 100000000 * 1000000000000000 = mul-le-mul few low in
     omega (arith, most)
 
-module _ (problem : Parts) (stands : IsProblem problem) (items : List Item) (of : AreOf problem items) (p : List ℕ)
-    (partial : IsPartial items p) where
+module _ (problem : Parts) (stands : IsProblem problem) (items : List Item) (of : AreOf problem items)
+    (p : List ℕ) (partial : IsPartial items p) where
   -- the load of a class
   class_load : (label : ℕ) → label < classes_of p
       → load_of_items problem (class_of label p items) ≤ 100000000000000000000000
@@ -41,7 +41,8 @@ module _ (problem : Parts) (stands : IsProblem problem) (items : List Item) (of 
   -- and of all classes
   load_low : load_of problem items p ≤ classes_of p * 100000000000000000000000
   load_low =
-      let long : length (range_with_len 0 (classes_of p)) ≡ classes_of p = length-range_with_len 0 (classes_of p) in
+      let long : length (range_with_len 0 (classes_of p)) ≡ classes_of p =
+      length-range_with_len 0 (classes_of p) in
       let all = sum_by-le (λ label. load_of_items problem (class_of label p items)) 100000000000000000000000
       (range_with_len 0 (classes_of p))
       (λ k d inside. class_load _ (omega (arith, get_or-range_with_len 0 (classes_of p) k d, long))) in

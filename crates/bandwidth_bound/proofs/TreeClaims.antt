@@ -14,12 +14,12 @@ use Rattle.bandwidth_bound.specs.Trees.{EachStands, Goal, TreeStands, open_place
 use Rattle.bandwidth_bound.proofs.Covers.{options-count}
 
 -- a greater number reaches what a number reaches
-reaches-more : (value : Option ℕ) (low high : ℕ) → low ≤ high → Reaches value low → Reaches value high
+pub reaches-more : (value : Option ℕ) (low high : ℕ) → low ≤ high → Reaches value low → Reaches value high
 reaches-more None low high le h = absurd h
 reaches-more (Some value) low high le h = omega arith
 
 -- what is counted once is there
-some_counted : {X : Type 0} (test : X → Bool) (xs : List X) → count_by test xs ≡ 1
+pub some_counted : {X : Type 0} (test : X → Bool) (xs : List X) → count_by test xs ≡ 1
     → list_any test xs ≡ true
 some_counted test [] e = absurd cc
 some_counted test (x ∷ xs) e = by (test x) refl (some_counted test xs)

@@ -14,7 +14,8 @@ use Rattle.bus_run.specs.Run.{Course}
 
 -- the identifiers of the frames, ascending
 abbrev pub ascending_identifiers : Parts → List MatrixRow → List ℕ
-ascending_identifiers problem rows = filter (λ id. list_any (nat_eq id) (frame_identifiers problem rows)) identifiers
+ascending_identifiers problem rows =
+    filter (λ id. list_any (nat_eq id) (frame_identifiers problem rows)) identifiers
 
 -- the items in the frame of an identifier
 abbrev pub items_of_frame : Parts → List MatrixRow → ℕ → List Item

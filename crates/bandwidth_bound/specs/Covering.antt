@@ -1,5 +1,5 @@
 -- What trees that stand show of groupings: the project's own.
-use Rattle.std.specs.Prelude.{◌≡◌, ◌*◌, ◌⊎◌, ℕ, Bool, true, false, List, [], count_by, Option}
+use Rattle.std.specs.Prelude.{◌≡◌, ◌<◌, ◌*◌, ◌⊎◌, ℕ, Bool, true, false, List, [], count_by, Contains, Option, None, Some}
 use Rattle.std.specs.List.{list_any}
 use Rattle.std.specs.Option.{option_map}
 use Rattle.pack_model.specs.declared.item.Item.{Item}
@@ -10,14 +10,14 @@ use Rattle.class_frame.specs.Legal.{IsLegal}
 use Rattle.response_test.specs.declared.evidence.Evidence.{Evidence}
 use Rattle.grouping_tree.specs.Partial.{begins}
 use Rattle.matrix_text.specs.Frames.{grouping_of, order_of}
-use Rattle.cert_text.specs.Trees.{Plain}
+use Rattle.cert_text.specs.Trees.{Plain, fail}
 use Rattle.cert_text.specs.declared.parts.Kind.TheVariants.{KindBetween, KindBest, KindNoSolution}
 use Rattle.bandwidth_bound.specs.Bounds.{Reaches}
 use Rattle.bandwidth_bound.specs.Follows.{EachReaches, HasTiming, NoneIsBetter, NoneIsSolvable}
-use Rattle.bandwidth_bound.specs.Rule.{Judged, RuleHolds, load_in, lower_in, main_goal}
+use Rattle.bandwidth_bound.specs.Rule.{ClassesFail, Judged, RuleHolds, load_in, lower_in, main_goal}
 use Rattle.bandwidth_bound.specs.Solvable.{Solvable}
 use Rattle.bandwidth_bound.specs.Timing.{AllPass}
-use Rattle.bandwidth_bound.specs.Trees.{Goal, TreeStands, leaves, open_places}
+use Rattle.bandwidth_bound.specs.Trees.{Goal, Leaf, TreeStands, leaves, open_places}
 
 -- a grouping extends the place of exactly one leaf
 abbrev pub ExtendsOneLeaf : List Item → List ℕ → Plain → List ℕ → Type 0
@@ -78,6 +78,33 @@ pub record TreesShow (judged : Judged) : Type 0 where
 -- they show it where the rule holds
 abbrev pub StandingTreesHold : Type 0
 StandingTreesHold = (judged : Judged) → IsProblem judged.problem → RuleHolds judged → TreesShow judged
+
+-- the leaves of the main tree, in order
+abbrev pub leaves_of : Parts → Option Plain → List Leaf
+leaves_of problem None = []
+leaves_of problem (Some tree) = leaves problem.items [] tree
+
+-- a grouping extends the place of a fail leaf, and the classes that this names are refuted there
+pub record ExtendsFailLeaf (problem : Parts) (tree : Option Plain) (labels : List ℕ) : Type 0 where
+  pub place : List ℕ
+  pub named : List (ℕ × Evidence)
+  pub is_leaf : Contains (leaves_of problem tree) (record { place = place; sign = fail named })
+  pub extends : begins place labels ≡ true
+  pub refuted : ClassesFail problem place named
+
+-- of the kind `best` each legal grouping of a smaller load extends a fail leaf, and of `none` each legal
+-- grouping
+pub record FailLeavesRefuse (judged : Judged) : Type 0 where
+  pub best : judged.cert.kind ≡ KindBest → (labels : List ℕ) → IsLegal judged.problem.items labels
+      → load_of judged.problem judged.problem.items labels < load_in judged
+      → ExtendsFailLeaf judged.problem judged.cert.main_tree labels
+  pub no_solution : judged.cert.kind ≡ KindNoSolution → (labels : List ℕ)
+      → IsLegal judged.problem.items labels
+      → ExtendsFailLeaf judged.problem judged.cert.main_tree labels
+
+-- they do where the rule holds
+abbrev pub FailLeavesHold : Type 0
+FailLeavesHold = (judged : Judged) → IsProblem judged.problem → RuleHolds judged → FailLeavesRefuse judged
 
 -- where the rule holds of a kind that speaks of times, each frame passes, and the matrix's grouping, where it
 -- is legal and its classes are in order, can meet all deadlines

@@ -32,7 +32,8 @@ HasTiming KindNoSolution rows = ⊥
 
 -- no grouping that can meet all deadlines has a smaller load
 abbrev pub NoneIsBetter : Parts → ℕ → Type 0
-NoneIsBetter problem load = (labels : List ℕ) → Solvable problem labels → load ≤ load_of problem problem.items labels
+NoneIsBetter problem load =
+    (labels : List ℕ) → Solvable problem labels → load ≤ load_of problem problem.items labels
 
 -- no grouping can meet all deadlines
 abbrev pub NoneIsSolvable : Parts → Type 0
@@ -43,9 +44,9 @@ abbrev pub EachReaches : Parts → ℕ → Type 0
 EachReaches problem lower =
     (labels : List ℕ) → Solvable problem labels → lower ≤ 8 * load_of problem problem.items labels
 
--- each signal has one place of its own; each frame passes the written test, and no release is late in any run of the bus
--- that stands; of the kind `best` no grouping that can meet all deadlines has a smaller load, of `none` there is no such
--- grouping, and of `open` each has at least the bound
+-- each signal has one place of its own; each frame passes the written test, and no release is late in any run
+-- of the bus that stands; of the kind `best` no grouping that can meet all deadlines has a smaller load, of
+-- `none` there is no such grouping, and of `open` each has at least the bound
 pub record Holds (judged : Judged) : Type 0 where
   pub one_place : HasMatrix judged.cert.kind judged.matrix → OnePlace judged.problem judged.matrix
   pub passes : HasTiming judged.cert.kind judged.matrix → AllPass judged.problem judged.matrix

@@ -1,4 +1,5 @@
--- The acceptance rule: when a matrix and a certificate of a problem show a verdict, and else which part fails first.
+-- The acceptance rule: when a matrix and a certificate of a problem show a verdict, and else which part fails
+-- first.
 use Rattle.std.specs.Prelude.{◌≡◌, ◌≤◌, ◌*◌, ⊤, ℕ, min, Bool, true, false, List, [], ◌∷◌, length, map, Option, None, Some}
 use Rattle.std.specs.Option.{option_map}
 use Rattle.pack_model.specs.Problem.{Parts}
@@ -28,7 +29,8 @@ pub record Judged : Type 0 where
   pub matrix : List MatrixRow
   pub cert : CertParts
 
--- the matrix part by kind: the matrix is placed; for the kind `none` it has no rows, for `open` it may have none
+-- the matrix part by kind: the matrix is placed; for the kind `none` it has no rows, for `open` it may have
+-- none
 abbrev pub MatrixOfKind : Kind → Parts → List MatrixRow → Type 0
 MatrixOfKind KindPlaced problem rows = Placed problem rows
 MatrixOfKind KindTimed problem rows = Placed problem rows
@@ -37,7 +39,8 @@ MatrixOfKind KindBetween problem (row ∷ rows) = Placed problem (row ∷ rows)
 MatrixOfKind KindBest problem rows = Placed problem rows
 MatrixOfKind KindNoSolution problem rows = rows ≡ []
 
--- the timing part by kind: the lines show that each frame passes; for the kind `placed`, and without rows, there are none
+-- the timing part by kind: the lines show that each frame passes; for the kind `placed`, and without rows,
+-- there are none
 abbrev pub TimingOfKind : Kind → Parts → List MatrixRow → List FrameLine → Type 0
 TimingOfKind KindPlaced problem rows lines = lines ≡ []
 TimingOfKind KindTimed problem rows lines = TimingStands problem rows lines
@@ -80,13 +83,14 @@ open_of problem (Some tree) = open_places problem.items [] tree
 abbrev pub least_open : Parts → Option Plain → ℕ
 least_open problem tree = least (map (lower8_of problem problem.items) (open_of problem tree))
 
--- the bound that a certificate of the kind `open` shows, in eighths: the least at its open leaves, and the best
+-- the bound that a certificate of the kind `open` shows, in eighths: the least at its open leaves, and the
+-- best
 abbrev pub lower_of : Parts → Option ℕ → Option Plain → ℕ
 lower_of problem None tree = least_open problem tree
 lower_of problem (Some best) tree = min (least_open problem tree) (8 * best)
 
--- the tree part by kind: the kinds `placed` and `timed` have no trees; for the others there is no lemma yet, and the main
--- tree stands, for `open` with open leaves, and at least one
+-- the tree part by kind: the kinds `placed` and `timed` have no trees; for the others there is no lemma yet,
+-- and the main tree stands, for `open` with open leaves, and at least one
 abbrev pub TreeOfKind : Kind → Parts → List MatrixRow → CertParts → Type 0
 TreeOfKind KindPlaced problem rows cert = ⊤
 TreeOfKind KindTimed problem rows cert = ⊤
@@ -129,7 +133,8 @@ abbrev pub IsOfKind : Verdict → Judged → Type 0
 IsOfKind verdict.Placed judged = judged.cert.kind ≡ KindPlaced
 IsOfKind (verdict.Timed load) judged = (judged.cert.kind ≡ KindTimed) × (load ≡ load_in judged)
 IsOfKind (verdict.Between best lower) judged =
-    (judged.cert.kind ≡ KindBetween) × (best ≡ best_of judged.problem judged.matrix) × (lower ≡ lower_in judged)
+    (judged.cert.kind ≡ KindBetween) × (best ≡ best_of judged.problem judged.matrix)
+    × (lower ≡ lower_in judged)
 IsOfKind (verdict.Best load) judged = (judged.cert.kind ≡ KindBest) × (load ≡ load_in judged)
 IsOfKind verdict.NoSolution judged = judged.cert.kind ≡ KindNoSolution
 

@@ -9,4 +9,5 @@ use Rattle.response_test.specs.Order.{OrderPasses}
 pub record Solvable (problem : Parts) (labels : List ℕ) : Type 0 where
   pub legal : IsLegal problem.items labels
   pub order : List ℕ
-  pub passes : OrderPasses (frames_of_classes problem problem.items labels) problem.network.nominal_ticks order
+  pub passes : OrderPasses (frames_of_classes problem problem.items labels) problem.network.nominal_ticks
+      order

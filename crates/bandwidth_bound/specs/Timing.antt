@@ -1,4 +1,5 @@
--- What the frame lines of a certificate show of a matrix: that each frame passes the response-time test of Davis, Burns, Bril and Lukkien (2007), with priorities in the order of ascending identifiers.
+-- What the frame lines of a certificate show of a matrix: that each frame passes the response-time test of
+-- Davis, Burns, Bril and Lukkien (2007), with priorities in the order of ascending identifiers.
 use Rattle.std.specs.Prelude.{◌≡◌, ◌<◌, ℕ, List, length, slice_index_or}
 use Rattle.pack_model.specs.Problem.{Parts}
 use Rattle.class_frame.specs.Classes.{frames_of_classes}
@@ -16,10 +17,11 @@ ShowsFrame problem rows place line =
 -- there is one line for each frame, by ascending identifier, and each shows that its frame passes
 pub record TimingStands (problem : Parts) (rows : List MatrixRow) (lines : List FrameLine) : Type 0 where
   pub count : length lines ≡ length (order_of problem rows)
-  pub each : (place : ℕ) (d : FrameLine) → place < length lines → ShowsFrame problem rows place (slice_index_or lines place d)
+  pub each : (place : ℕ) (d : FrameLine) → place < length lines
+      → ShowsFrame problem rows place (slice_index_or lines place d)
 
 -- each frame passes the written test in the order of ascending identifiers
 abbrev pub AllPass : Parts → List MatrixRow → Type 0
 AllPass problem rows = (place : ℕ) → place < length (order_of problem rows)
-    → FramePasses (frames_of_classes problem problem.items (grouping_of problem rows)) (order_of problem rows) place
-    problem.network.nominal_ticks
+    → FramePasses (frames_of_classes problem problem.items (grouping_of problem rows)) (order_of problem rows)
+    place problem.network.nominal_ticks

@@ -19,11 +19,13 @@ pub record Goal : Type 1 where
   -- the classes that a fail leaf names are refuted at a partial grouping
   pub AreFailing : List ℕ → List (ℕ × Evidence) → Type 0
 
--- A tree stands at a partial grouping: an inner node where items are left, with one subtree for each option, in order, that
--- stands with the option put; a bound leaf where the bound reaches the value; a fail leaf where its classes are refuted.
+-- A tree stands at a partial grouping: an inner node where items are left, with one subtree for each option,
+-- in order, that stands with the option put; a bound leaf where the bound reaches the value; an open leaf
+-- where leaves may be left open; a fail leaf where its classes are refuted.
 abbrev mutual
   pub TreeStands : Goal → List ℕ → Plain → Type 0
-  TreeStands goal p (inner trees) = (length p < length goal.items) × EachStands goal p (options_of goal.items p) trees
+  TreeStands goal p (inner trees) =
+      (length p < length goal.items) × EachStands goal p (options_of goal.items p) trees
   TreeStands goal p bound = Reaches goal.value (goal.lower8 p)
   TreeStands goal p left = goal.may_leave ≡ true
   TreeStands goal p (fail named) = goal.AreFailing p named

@@ -1,5 +1,5 @@
 //! Laws of standing trees: which groupings they cover, and what they show of them.
-ghost use Rattle.bandwidth_bound.specs.Covering.{LeavesCover, MainLeavesCover, NoneIsOpen, ShownIsSolvable, StandingTreesHold, TreesClaim};
+ghost use Rattle.bandwidth_bound.specs.Covering.{FailLeavesHold, LeavesCover, MainLeavesCover, NoneIsOpen, ShownIsSolvable, StandingTreesHold, TreesClaim};
 
 /// In a tree that stands, each legal grouping that extends its place extends the place of exactly one leaf.
 pub fn leaves_cover()
@@ -17,6 +17,12 @@ pub fn standing_trees_claim()
 /// Where the acceptance rule holds, the trees show what the certificate's kind says of all groupings.
 pub fn standing_trees_hold()
     ensures { StandingTreesHold }
+{}
+
+/// Where the acceptance rule holds, a legal grouping of a smaller load than the best's extends a fail leaf;
+/// of the kind `none` each legal grouping does.
+pub fn fail_leaves_hold()
+    ensures { FailLeavesHold }
 {}
 
 /// Where the acceptance rule holds of a kind that speaks of times, the matrix's grouping can meet all

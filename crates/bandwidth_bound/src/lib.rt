@@ -15,7 +15,9 @@ mod final_laws;
 mod verdict;
 
 pub use bounds::loads_fit;
-pub use covering::{leaves_cover, shown_is_solvable, standing_trees_claim, standing_trees_hold};
+pub use covering::{
+    fail_leaves_hold, leaves_cover, shown_is_solvable, standing_trees_claim, standing_trees_hold,
+};
 pub use failing::refutes;
 pub use final_laws::{
     bound_is_below, classes_extend, fail_set_is_final, failing_is_final, failing_sets_grow,
