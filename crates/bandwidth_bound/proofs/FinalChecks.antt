@@ -6,10 +6,10 @@ use Rattle.busy_period.specs.Checked.{is_stage}
 use Rattle.busy_period.proofs.Checks.{stage_from_test}
 use Rattle.response_test.proofs.Checks.{bit_from_test, common_from_test}
 
-few_from_test : (frames : List Timed) → IsTrue (is_stage frames (0 ∷ []) 0) → length frames ≤ 128
+pub few_from_test : (frames : List Timed) → IsTrue (is_stage frames (0 ∷ []) 0) → length frames ≤ 128
 few_from_test frames it = (stage_from_test frames (0 ∷ []) 0 it).few
 
-range_from_test : (frames : List Timed) → IsTrue (is_stage frames (0 ∷ []) 0) → All IsInRange frames
+pub range_from_test : (frames : List Timed) → IsTrue (is_stage frames (0 ∷ []) 0) → All IsInRange frames
 range_from_test frames it = (stage_from_test frames (0 ∷ []) 0 it).in_range
 
 -- the laws, for the tests

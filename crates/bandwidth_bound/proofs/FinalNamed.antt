@@ -10,6 +10,7 @@ use Rattle.std.proofs.lemmas.Map.Steps.{length-le_from_distinct_below}
 use Rattle.std.proofs.lemmas.Map.Views.{Contains-from_any}
 use Rattle.busy_period.specs.declared.timed.Timed.{Timed}
 use Rattle.busy_period.specs.Timed.{IsInRange}
+use Rattle.busy_period.specs.Stage.{IsStage}
 use Rattle.response_test.specs.declared.evidence.Evidence.{Evidence}
 use Rattle.response_test.specs.Order.{others_of, remaining_of}
 use Rattle.bandwidth_bound.specs.Failing.{AreRefuted, numbers_of, order_below}
