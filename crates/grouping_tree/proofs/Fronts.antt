@@ -53,3 +53,17 @@ full-legal items q all h =
       grouping = record { each = all; by_first_use = h.by_first_use };
       classes = h.classes;
     }
+
+-- with more labels a class only gets more items
+pub classes-extend : (items : List Item) (p q : List ℕ) → begins p q ≡ true → (label : ℕ) → (more : List Item) × (class_of label q items ≡ class_of label p items ++ more)
+classes-extend items p q e label =
+    let r = drop (length p) q in
+    (class_of label r (drop (length p) items), ap (λ ls. class_of label ls items) (begins-is p q e) ∙ class-append label p r items)
+
+classes-append : (p r : List ℕ) → classes_of p ≤ classes_of (p ++ r)
+classes-append [] r = omega arith
+classes-append (l ∷ p) r = omega (arith, classes-append p r)
+
+-- and there are no fewer classes
+pub classes-grow : (p q : List ℕ) → begins p q ≡ true → classes_of p ≤ classes_of q
+classes-grow p q e = omega (arith, ap classes_of (begins-is p q e), classes-append p (drop (length p) q))

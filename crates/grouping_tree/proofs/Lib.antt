@@ -1,5 +1,6 @@
 pub mod Classes
 pub mod Fronts
+pub mod Loads
 pub mod Options
 pub mod Puts
 pub mod Steps

@@ -1,5 +1,5 @@
 -- Each option keeps the grouping legal, and the first unused label is one where the next item can be a frame.
-use Rattle.std.proofs.Common.{◌≡◌, ◌||◌, if◌then◌else◌, is_some, sum_by, Option, None, Some, ℕ, zero, suc, ◌+◌, ◌<◌, ◌≤◌, ◌⊎◌, inl, inr, Bool, true, false, cond, List, [], ◌∷◌, ◌++◌, length, drop, take, get_or, filter, count_by, nat_eq, All, refl, sym, ap, subst, ◌∙◌, arith, length-append, append-nil}
+use Rattle.std.proofs.Common.{◌≡◌, ◌||◌, if◌then◌else◌, is_some, sum_by, Option, None, Some, ℕ, zero, suc, ◌+◌, ◌<◌, ◌≤◌, ◌⊎◌, inl, inr, Bool, true, false, cond, List, [], ◌∷◌, ◌++◌, length, drop, take, get_or, filter, count_by, nat_eq, All, AllPairs, refl, sym, ap, subst, ◌∙◌, arith, length-append, append-nil}
 use Rattle.std.specs.List.{cons_option, range_with_len}
 use Rattle.std.proofs.lemmas.Bool.{eqb-true, eq-eqb, ne_eqb, lt-ltb, le-ltb, cases_lt}
 use Rattle.std.proofs.lemmas.List.{take-append-le}
@@ -21,6 +21,10 @@ class-other : {X : Type 0} (k l : ℕ) (xs : List X) → nat_eq l k ≡ false �
 class-other k l [] e = refl
 class-other k l (x ∷ xs) e = rw e refl
 
+-- the class of another label stays
+pub class-stays : (k : ℕ) (p : List ℕ) (l : ℕ) (items : List Item) → nat_eq l k ≡ false → class_of k (p ++ l ∷ []) items ≡ class_of k p items
+class-stays k p l items e = class-append k p (l ∷ []) items ∙ ap (λ ys. class_of k p items ++ ys) (class-other k l (drop (length p) items) e) ∙ append-nil (class_of k p items)
+
 -- a label that keeps the grouping legal may be put
 pub put-legal : (items : List Item) (p : List ℕ) (l : ℕ) → IsPartial items p → length p < length items → l ≤ classes_of p → keeps_legal items p l ≡ true → IsPartial items (p ++ l ∷ [])
 put-legal items p l h room low legal =
@@ -38,11 +42,7 @@ put-legal items p l h room low legal =
 
     of : (label : ℕ) (b : Bool) → nat_eq l label ≡ b → ClassStands (class_of label (p ++ l ∷ []) items)
     of label true e = subst (λ k. ClassStands (class_of k (p ++ l ∷ []) items)) (eqb-true l label e) (is_class-to (class_of l (p ++ l ∷ []) items) legal)
-    of label false e =
-        let same : class_of label (p ++ l ∷ []) items ≡ class_of label p items =
-        class-append label p (l ∷ []) items ∙ ap (λ ys. class_of label p items ++ ys) (class-other label l (drop (length p) items) e) ∙ append-nil (class_of label p items)
-        in
-        subst ClassStands (sym same) (h.classes label)
+    of label false e = subst ClassStands (sym (class-stays label p l items e)) (h.classes label)
 
 all-filter : (f : ℕ → Bool) (P Q : ℕ → Type 0) → ((x : ℕ) → P x → f x ≡ true → Q x) → (xs : List ℕ) → All P xs → All Q (filter f xs)
 all-filter f P Q g [] all = All-nil Q
@@ -110,3 +110,29 @@ some_option items p h room small none =
     new-option items p item h room (one_stands (get_or items (length p) item) (small (length p) item room))
     in
     absurd (let zero_is : 0 ≡ 1 = sym (ap (count_by (λ x. nat_eq x (classes_of p))) none) ∙ once in omega arith)
+
+-- ---- ascending options
+
+all-past : (a n b : ℕ) → b < a → All (λ l. b < l) (range_with_len a n)
+all-past a zero b lt = All-nil (λ l. b < l)
+all-past a (suc n) b lt = All-cons (λ l. b < l) a (range_with_len (a + 1) n) lt (all-past (a + 1) n b (omega arith))
+
+pairs-cons : (x : ℕ) (xs : List ℕ) → All (λ l. x < l) xs → AllPairs (λ l m. l < m) xs → AllPairs (λ l m. l < m) (x ∷ xs)
+pairs-cons x xs all rest i zero d before lt = absurd (omega arith)
+pairs-cons x xs all rest zero (suc j) d before lt = all j d (omega arith)
+pairs-cons x xs all rest (suc i) (suc j) d before lt = rest i j d (omega arith) (omega arith)
+
+ascend : (f : ℕ → Bool) (a n : ℕ) → AllPairs (λ l m. l < m) (filter f (range_with_len a n))
+ascend f a zero = λ i j d before lt. absurd (omega arith)
+ascend f a (suc n) = by (f a) (ascend f (a + 1) n)
+  where
+    by : (b : Bool) → AllPairs (λ l m. l < m) (filter f (range_with_len (a + 1) n)) → AllPairs (λ l m. l < m) (cond b (a ∷ filter f (range_with_len (a + 1) n)) (filter f (range_with_len (a + 1) n)))
+    by true ih = pairs-cons a (filter f (range_with_len (a + 1) n)) (all-filter f (λ l. a < l) (λ l. a < l) (λ l lt e. lt) (range_with_len (a + 1) n) (all-past (a + 1) n a (omega arith))) ih
+    by false ih = ih
+
+pub options-ascend : (items : List Item) (p : List ℕ) → AllPairs (λ l m. l < m) (options_of items p)
+options-ascend items p = by (cases_lt (length p) (length items))
+  where
+    by : (length p < length items) ⊎ (length items ≤ length p) → AllPairs (λ l m. l < m) (options_of items p)
+    by (inl room) = rw (lt-ltb (length p) (length items) room) (ascend (keeps_legal items p) 0 (classes_of p + 1))
+    by (inr full) = rw (le-ltb (length p) (length items) full) (λ i j d before lt. absurd (omega arith))

@@ -10,6 +10,8 @@ use Rattle.pack_model.proofs.Laws.{tests}
 use Rattle.pack_model.proofs.Numbering.{few_senders}
 use Rattle.pack_model.proofs.OrderSteps.{all_numbered}
 use Rattle.pack_model.proofs.ProblemItems.{of_problem}
+use Rattle.class_frame.specs.Classes.{load_of}
+use Rattle.class_frame.specs.Frame.{load_of_items}
 use Rattle.class_frame.specs.Grouping.{class_of, classes_of}
 use Rattle.class_frame.specs.Laws.{HasSignal}
 use Rattle.class_frame.specs.Legal.{ClassStands}
@@ -23,6 +25,8 @@ use Rattle.grouping_tree.specs.Partial.{IsPartial, is_class, keeps_legal}
 use Rattle.grouping_tree.specs.Grouped.{Belongs, IsNext, IsUsed, items_with, labels_of, range_of, room_of}
 use Rattle.grouping_tree.specs.declared.partial.Partial.{Partial}
 use Rattle.grouping_tree.proofs.Fronts.{partial-append}
+use Rattle.grouping_tree.proofs.Loads.{load_put, load_low, loads_low}
+use Rattle.grouping_tree.proofs.Puts.{class-unused}
 use Rattle.grouping_tree.proofs.Options.{next-low, is_class-to, is_class-from}
 use Rattle.grouping_tree.proofs.Steps.{class_next, element, range_at, length-class_labels, length-range}
 
@@ -80,14 +84,25 @@ put_room problem p label b legal =
 pub used_room : (problem : Parts) (p : Partial) (label : ℕ) → Belongs problem p → IsUsed p label → label < room_of p
 used_room problem p label b low = omega (arith, low, classes_few problem p b, b.within, b.enough)
 
--- the items of a used label have a signal
+-- some items of a label have a signal
+pub class_signal : (problem : Parts) (p : Partial) (labels : List ℕ) (label : ℕ) → Belongs problem p → 1 ≤ length (class_of label labels (range_of problem p)) → HasSignal problem (class_of label labels (range_of problem p))
+class_signal problem p labels label b some =
+    let all = of_problem problem b.stands (IsItemOf problem.signals) (items_of_signals problem.signals (items_in_order problem.signals) (IsPermutation-refl (items_in_order problem.signals))) in
+    items_have_signal problem (class_of label labels (range_of problem p)) some
+    (All-class_of (IsItemOf problem.signals) label labels (range_of problem p) (in_range (IsItemOf problem.signals) p.first p.many problem.items b.inside all))
+
+-- so have those of a used label
 pub used_signal : (problem : Parts) (p : Partial) (label : ℕ) → Belongs problem p → IsUsed p label → HasSignal problem (items_with problem p label)
 used_signal problem p label b low =
     let (k, lt, at) = used (labels_of p) b.legal.by_first_use label low in
-    let all = of_problem problem b.stands (IsItemOf problem.signals) (items_of_signals problem.signals (items_in_order problem.signals) (IsPermutation-refl (items_in_order problem.signals))) in
-    items_have_signal problem (items_with problem p label)
-    (class_of-some label (labels_of p) (range_of problem p) k lt (omega (arith, lt, b.legal.within)) at)
-    (All-class_of (IsItemOf problem.signals) label (labels_of p) (range_of problem p) (in_range (IsItemOf problem.signals) p.first p.many problem.items b.inside all))
+    class_signal problem p (labels_of p) label b (class_of-some label (labels_of p) (range_of problem p) k lt (omega (arith, lt, b.legal.within)) at)
+
+-- and those of a label that is put
+pub next_signal : (problem : Parts) (p : Partial) (label : ℕ) (next : Sums) → Belongs problem p → IsNext problem p next → HasSignal problem (class_of label (labels_of p ++ label ∷ []) (range_of problem p))
+next_signal problem p label next b is =
+    let (item, at) = element (range_of problem p) (length (labels_of p)) is.some in
+    class_signal problem p (labels_of p ++ label ∷ []) label b
+    (omega (arith, ap length (class_next label (labels_of p) (range_of problem p) item is.some at), length-append (items_with problem p label) (item ∷ [])))
 
 -- and their sums are small
 pub used_small : (problem : Parts) (p : Partial) (label : ℕ) → Belongs problem p → IsSmall (sums_of problem (items_with problem p label))
@@ -152,4 +167,26 @@ last_low problem p q l b e =
       counted problem p b,
       b.within,
       few problem p b,
+    )
+
+-- the load with one more label
+pub load_put_is : (problem : Parts) (p : Partial) (label old new : ℕ) (next sums with_next : Sums) → Belongs problem p → IsNext problem p next → label ≤ classes_of (labels_of p)
+    → AreSums problem (items_with problem p label) sums → AreSums problem (class_of label (labels_of p ++ label ∷ []) (range_of problem p)) with_next
+    → (sums.items ≡ 0 → old ≡ 0) → ((problem : Parts) (items : List Item) → Belongs problem p → AreSums problem items sums → HasSignal problem items → old ≡ load_of_items problem items)
+    → ((problem : Parts) (items : List Item) → Belongs problem p → AreSums problem items with_next → HasSignal problem items → new ≡ load_of_items problem items)
+    → (old ≤ p.load) × (p.load ≤ 12800000000000000000000000) × (new ≤ 100000000000000000000000) × (load_of problem (range_of problem p) (labels_of p ++ label ∷ []) + old ≡ p.load + new)
+load_put_is problem p label old new next sums with_next b is low are will none before after =
+    let range = range_of problem p in
+    let signal = next_signal problem p label next b is in
+    let put = load_put problem range (labels_of p) label old low
+    (λ used. before problem (items_with problem p label) b are (used_signal problem p label b used))
+    (λ here. none (ap (λ (s : Sums). s.items) are ∙ ap length (class-unused (labels_of p) range label (omega (arith, here))))) in
+    let is_new : new ≡ load_of_items problem (class_of label (labels_of p ++ label ∷ []) range) = after problem (class_of label (labels_of p ++ label ∷ []) range) b will signal in
+    let all = loads_low problem range (labels_of p) b.stands (λ k lt. used_signal problem p k b lt) in
+    let one = load_low problem (class_of label (labels_of p ++ label ∷ []) range) b.stands signal in
+    (
+      omega (arith, put.1, b.load),
+      omega (arith, all, b.load, classes_few problem p b, b.within, few problem p b),
+      omega (arith, one, is_new),
+      omega (arith, put.0, b.load, is_new),
     )

@@ -1,7 +1,7 @@
 -- The laws of partial groupings: the project's own.
-use Rattle.std.specs.Prelude.{ℕ, ◌≡◌, ◌<◌, true, List, [], ◌∷◌, ◌++◌, length, count_by, slice_index_or, nat_eq, All}
+use Rattle.std.specs.Prelude.{ℕ, ◌≡◌, ◌<◌, ◌≤◌, true, List, [], ◌∷◌, ◌++◌, length, count_by, slice_index_or, nat_eq, All, AllPairs}
 use Rattle.pack_model.specs.declared.item.Item.{Item}
-use Rattle.class_frame.specs.Grouping.{classes_of}
+use Rattle.class_frame.specs.Grouping.{class_of, classes_of}
 use Rattle.class_frame.specs.Legal.{ClassStands, IsLegal}
 use Rattle.grouping_tree.specs.Partial.{IsPartial, begins, options_of}
 
@@ -24,6 +24,19 @@ NextIsOption = (items : List Item) (p : List ℕ) (label : ℕ) → IsPartial it
 -- each option may be put
 abbrev pub OptionsAreLegal : Type 0
 OptionsAreLegal = (items : List Item) (p : List ℕ) → IsPartial items p → All (λ label. IsPartial items (p ++ label ∷ [])) (options_of items p)
+
+-- the options are ascending
+abbrev pub OptionsAscend : Type 0
+OptionsAscend = (items : List Item) (p : List ℕ) → AllPairs (λ label other. label < other) (options_of items p)
+
+-- where a list of labels begins with another, each class begins with that of the other
+abbrev pub ClassesExtend : Type 0
+ClassesExtend = (items : List Item) (p q : List ℕ) → begins p q ≡ true
+    → (label : ℕ) → (more : List Item) × (class_of label q items ≡ class_of label p items ++ more)
+
+-- and it has no fewer classes
+abbrev pub ClassesGrow : Type 0
+ClassesGrow = (p q : List ℕ) → begins p q ≡ true → classes_of p ≤ classes_of q
 
 -- the first unused label is an option, where the next item alone can be a frame
 abbrev pub NewIsOption : Type 0

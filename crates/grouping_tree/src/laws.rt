@@ -1,5 +1,5 @@
 //! Laws of partial groupings.
-ghost use Rattle.grouping_tree.specs.Laws.{FrontsAreLegal, FullIsLegal, LegalIsPartial, NewIsOption, NextIsOption, OptionsAreLegal};
+ghost use Rattle.grouping_tree.specs.Laws.{ClassesExtend, ClassesGrow, OptionsAscend, FrontsAreLegal, FullIsLegal, LegalIsPartial, NewIsOption, NextIsOption, OptionsAreLegal};
 
 /// The first labels of a partial grouping are one.
 pub fn fronts_are_legal()
@@ -29,4 +29,19 @@ pub fn options_are_legal()
 /// A new label is an option wherever the next item alone can be a frame.
 pub fn new_is_option()
     ensures { NewIsOption }
+{}
+
+/// The options are ascending, so each label is there once.
+pub fn options_ascend()
+    ensures { OptionsAscend }
+{}
+
+/// With more labels each class only gets more items, after those that it has.
+pub fn classes_extend()
+    ensures { ClassesExtend }
+{}
+
+/// With more labels there are no fewer classes.
+pub fn classes_grow()
+    ensures { ClassesGrow }
 {}

@@ -9,7 +9,7 @@ mod partial;
 mod walk;
 
 pub use laws::{
-    fronts_are_legal, full_is_legal, legal_is_partial, new_is_option, next_is_option,
+    classes_extend, classes_grow, options_ascend, fronts_are_legal, full_is_legal, legal_is_partial, new_is_option, next_is_option,
     options_are_legal,
 };
 pub use partial::{Kept, Partial};

@@ -1,8 +1,11 @@
 //! A partial grouping with its running sums.
-ghost use Rattle.std.specs.Prelude.{◌≡◌, ◌≤◌, ◌<◌, ◌+◌, ℕ, Some, None, [], ◌∷◌, ◌++◌, length, take, slice_index, IfOk, IfSome, MatchOption};
+ghost use Rattle.std.specs.Prelude.{◌≡◌, ◌≤◌, ◌<◌, ◌+◌, ℕ, Some, None, List, [], ◌∷◌, ◌++◌, length, take, slice_index, IfOk, IfSome, MatchOption};
 ghost use Rattle.busy_period.specs.Timed.{IsInRange};
 ghost use Rattle.pack_model.specs.Problem.{Parts};
-ghost use Rattle.class_frame.specs.Frame.{timed_of_items, weight_of_items, size_of_items};
+ghost use Rattle.pack_model.specs.declared.item.Item.{Item};
+ghost use Rattle.class_frame.specs.Classes.{load_of};
+ghost use Rattle.class_frame.specs.Laws.{HasSignal};
+ghost use Rattle.class_frame.specs.Frame.{load_of_items, timed_of_items, weight_of_items, size_of_items};
 ghost use Rattle.class_frame.specs.Grouping.{class_of, classes_of};
 ghost use Rattle.class_frame.specs.Sums.{AreSums, IsSmall};
 ghost use Rattle.grouping_tree.specs.Partial.{IsPartial, keeps_legal, options_of};
@@ -19,6 +22,8 @@ use std::alloc::Global;
 pub struct Partial {
     /// The problem's network.
     network: Network,
+    /// The problem's common period, in ticks.
+    hyper: u64,
     /// The place of the range's first item.
     first: usize,
     /// How many items the range has.
@@ -27,6 +32,8 @@ pub struct Partial {
     count: usize,
     /// How many classes these have.
     classes: u32,
+    /// The loads of these together.
+    load: u128,
     /// The labels, and what is left of earlier ones.
     labels: Vec<u32>,
     /// The sums of the items of each label.
@@ -42,6 +49,8 @@ struct Before {
     sums: Sums,
     /// The number of classes.
     classes: u32,
+    /// The loads of these together.
+    load: u128,
 }
 
 impl Partial {
@@ -56,13 +65,16 @@ impl Partial {
         let none = Before {
             sums: Sums::none(),
             classes: 0,
+            load: 0,
         };
         Ok(Partial {
             network: *problem.network(),
+            hyper: problem.hyper(),
             first: 0,
             many,
             count: 0,
             classes: 0,
+            load: 0,
             labels: vec![in alloc; 0; many]?,
             sums: vec![in alloc; Sums::none(); many]?,
             before: vec![in alloc; none; many]?,
@@ -173,6 +185,22 @@ impl Partial {
         self.sums_with(label, next).stands()
     }
 
+    /// The load of a class with these sums: 0 where it has no items.
+    fn load_with(&self, sums: Sums) -> u128
+        requires small { IsSmall sums }
+        requires known { (problem : Parts) × (items : List Item) × Belongs problem self.now × AreSums problem items sums
+            × (1 ≤ length items → HasSignal problem items) }
+        ensures none { sums.items ≡ 0 → result ≡ 0 }
+        ensures load { (problem : Parts) (items : List Item) → Belongs problem self.now → AreSums problem items sums
+            → HasSignal problem items → result ≡ load_of_items problem items }
+    {
+        if sums.items == 0 {
+            0
+        } else {
+            sums.load(&self.network, self.hyper)
+        }
+    }
+
     /// Gives the next item a label: one that may be put next.
     pub fn put(&mut self, problem: &Problem, label: u32)
         requires belongs { Belongs problem.now self.old }
@@ -184,13 +212,20 @@ impl Partial {
     {
         let next = self.next_sums(problem);
         let with_next = self.sums_with(label, next);
+        let sums = self.sums[label as usize];
+        let load_before = self.load_with(sums);
+        let load_with_next = self.load_with(with_next);
+        let rest = self.load - load_before;
+        let load = rest + load_with_next;
         self.before[self.count] = Before {
-            sums: self.sums[label as usize],
+            sums,
             classes: self.classes,
+            load: self.load,
         };
         self.labels[self.count] = label;
         self.sums[label as usize] = with_next;
         self.classes = self.classes.max(label + 1);
+        self.load = load;
         self.count += 1;
     }
 
@@ -208,6 +243,7 @@ impl Partial {
         let label = self.labels[self.count];
         self.sums[label as usize] = before.sums;
         self.classes = before.classes;
+        self.load = before.load;
     }
 
     /// What is kept of the class of a used label, for every problem to which the partial grouping belongs.
@@ -227,6 +263,43 @@ impl Partial {
             size: sums.size().unwrap_or(0),
             timed: sums.timed(&self.network),
         }
+    }
+
+    /// The loads of the classes together, in ticks of a common period, for every problem to which the partial grouping
+    /// belongs.
+    pub fn kept_load(&self) -> u128
+        requires { (problem : Parts) × Belongs problem self.now }
+        ensures { (problem : Parts) → Belongs problem self.now
+            → result ≡ load_of problem (range_of problem self.now) (labels_of self.now) }
+    {
+        self.load
+    }
+
+    /// The class of a used label as a frame, in ticks.
+    pub fn timed_of(&self, problem: &Problem, label: u32) -> Timed
+        requires belongs { Belongs problem.now self.now }
+        requires used { IsUsed self.now label }
+        ensures { result ≡ timed_of_items problem.now (items_with problem.now self.now label) }
+    {
+        self.kept(label).timed
+    }
+
+    /// The data length of the frame of a used label, in bytes.
+    pub fn size_of(&self, problem: &Problem, label: u32) -> u32
+        requires belongs { Belongs problem.now self.now }
+        requires used { IsUsed self.now label }
+        ensures { Some result ≡ size_of_items (items_with problem.now self.now label) }
+    {
+        self.kept(label).size
+    }
+
+    /// The weights of the items of a used label together.
+    pub fn weight_of(&self, problem: &Problem, label: u32) -> u32
+        requires belongs { Belongs problem.now self.now }
+        requires used { IsUsed self.now label }
+        ensures { result ≡ weight_of_items (items_with problem.now self.now label) }
+    {
+        self.kept(label).weight
     }
 }
 

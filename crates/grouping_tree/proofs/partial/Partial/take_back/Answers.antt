@@ -40,6 +40,8 @@ returns-clause-belongs c =
       legal = partial-append range (take n p.labels.items) (get_or p.labels.items n 0 ∷ []) (subst (IsPartial range) (ap (λ m. take m p.labels.items) (sym next) ∙ take_more p.labels.items n 0 some) b.legal);
       low = λ i lt. b.low i (omega (arith, lt, next));
       classes = old.classes;
+      hyper = b.hyper;
+      load = old.load;
       sums = λ k d lt. sums_back problem range p.labels.items p.sums.items n label item c.index-before.result.now.sums some (omega (arith, many, next, b.within)) (omega (arith, b.sums_room, low)) at here
           (λ j e below. b.sums j e (omega (arith, below, b.sums_room)) ∙ ap (λ m. sums_of problem (class_of j (take m p.labels.items) range)) (sym next)) before k d (omega (arith, lt, b.sums_room));
       before = λ i d lt. b.before i d (omega (arith, lt, next));

@@ -18,6 +18,8 @@ returns-clause-belongs c =
       legal = partial-none _;
       low = λ i lt. absurd (omega arith);
       classes = search rules;
+      hyper = search rules;
+      load = search rules;
       sums = λ k d lt. ap (λ (l : List Sums). get_or l k d) sums ∙ get_or-replicate _ k c.none-2.result d (search rules) ∙ c.none-2.ensures c.args.problem.now;
       before = λ i d lt. absurd (omega arith);
     }
