@@ -1,9 +1,12 @@
 -- What follows from what is found of a certificate with a placed matrix.
-use Rattle.std.proofs.Common.{◌≡◌, ℕ, true, false, List, Result, Ok, Err, refl, sym, ap, subst, ◌∙◌}
+use Rattle.std.proofs.Common.{◌≡◌, ◌*◌, ◌^◌, ◌<◌, ℕ, true, false, List, length, arith, Result, Ok, Err, refl, sym, ap, subst, ◌∙◌}
 use Rattle.std.specs.Prelude.{OnOk}
 use Rattle.pack_model.specs.Problem.{Parts, IsProblem, IsSorted}
+use Rattle.pack_model.proofs.Laws.{tests}
+use Rattle.class_frame.specs.Classes.{load_of}
 use Rattle.class_frame.specs.Grouping.{IsGrouping, IsOrder}
 use Rattle.class_frame.specs.Legal.{IsLegal}
+use Rattle.grouping_tree.proofs.Fronts.{legal-partial}
 use Rattle.matrix_rows.specs.declared.matrix.MatrixRow.{MatrixRow}
 use Rattle.matrix_text.specs.Frames.{grouping_of, order_of}
 use Rattle.matrix_text.specs.OnePlace.{OnePlace}
@@ -14,6 +17,9 @@ use Rattle.bandwidth_bound.specs.Follows.{Holds, HasMatrix, HasTiming}
 use Rattle.bandwidth_bound.specs.Rule.{RuleHolds}
 use Rattle.bandwidth_bound.specs.Timing.{TimingStands}
 use Rattle.bandwidth_bound.specs.declared.verdict.Verdict.{Verdict}
+use Rattle.bandwidth_bound.proofs.Extend.{bound_is_below}
+use Rattle.bandwidth_bound.proofs.Final.{all_items, failing_is_final}
+use Rattle.bandwidth_bound.proofs.Loads.{loads_fit}
 use Rattle.bandwidth_bound.proofs.Shown.{shown_is_solvable}
 use Rattle.bandwidth_bound.proofs.Standing.{trees_hold}
 use Rattle.cert_check.specs.declared.fault.CheckFault.{CheckFault}
@@ -25,7 +31,7 @@ use Rattle.cert_check.proofs.KindLaws.{no_matrix, no_timing, timing_of}
 module _ (problem : Parts) (rows : List MatrixRow) (cert : CertParts) (stands : IsProblem problem) where
   -- what the trees show
   trees : RuleHolds (judged_of problem rows cert) → TreesShow (judged_of problem rows cert)
-  trees rule = trees_hold (judged_of problem rows cert) stands rule
+  trees rule = trees_hold bound_is_below failing_is_final (judged_of problem rows cert) stands rule
 
   -- of a certificate whose matrix is to have no rows
   pub holds_without : is_to_be_placed cert.kind rows ≡ false → (answer : Result Verdict CheckFault)
@@ -62,3 +68,10 @@ module _ (problem : Parts) (rows : List MatrixRow) (cert : CertParts) (stands : 
         between = shows.between;
       }
   holds_placed sorted one_place legal named (Err why) found = tt
+
+-- the load of a legal grouping has room for an eighth
+pub load_fits : (problem : Parts) → IsProblem problem → (labels : List ℕ) → IsLegal problem.items labels
+    → 8 * load_of problem problem.items labels < 2 ^ 128
+load_fits problem stands labels legal =
+    loads_fit problem stands problem.items (all_items problem) labels (legal-partial problem.items labels legal)
+    (omega (arith, legal.grouping.each, (tests problem stands).few_items))

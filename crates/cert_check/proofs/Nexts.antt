@@ -55,6 +55,6 @@ pub denied : (b : Bool) (P : Type 0) → b ≡ false → (IsTrue b ↔ P) → ¬
 denied b P e iff = λ p. false≢true (sym e ∙ iff.1 p)
 
 -- the places to come after a leaf
-pub passed : (went : Bool) (rest there : List (List ℕ)) → (went ≡ true → rest ≡ there) → (went ≡ false → rest ≡ []) → cond (not went) [] there ≡ rest
-passed true rest there next none = sym (next refl)
-passed false rest there next none = sym (none refl)
+pub passed : (went : Bool) (after there : List (List ℕ)) → (went ≡ true → after ≡ there) → (went ≡ false → after ≡ []) → cond (not went) [] there ≡ after
+passed true after there next none = sym (next refl)
+passed false after there next none = sym (none refl)

@@ -233,8 +233,12 @@ pub lowered_least : (xs : List ℕ) → 1 ≤ length xs → lowered None xs ≡ 
 lowered_least [] some = absurd (omega arith)
 lowered_least (x ∷ xs) some = lowered_some x xs
 
+pub lowered_some_of : (xs : List ℕ) (n : ℕ) → lowered None xs ≡ Some n → 1 ≤ length xs
+lowered_some_of [] n e = absurd cc
+lowered_some_of (x ∷ xs) n e = omega arith
+
 pub lowered_none : (xs : List ℕ) → lowered None xs ≡ None → ¬ (1 ≤ length xs)
-lowered_none xs none some = let e : Some (least xs) ≡ None = sym (lowered_least xs some) ∙ none in absurd cc
+lowered_none xs empty some = let e : Some (least xs) ≡ None = sym (lowered_least xs some) ∙ empty in absurd cc
 
 module _ (goal : Goal) (tree : Plain) (after : Way)
     (takes : Takes goal (record { failed = false; places = [] ∷ []; least = None }) after (nodes_of tree)) where

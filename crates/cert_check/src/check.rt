@@ -28,6 +28,7 @@ pub fn check_cert(
     ensures found { IsFound problem.now matrix.now cert.now result }
     ensures holds { OnOk result (Holds (judged_of problem.now matrix.now cert.now)) }
 {
+    let items = problem.items().len();
     let kind = cert.kind();
     let lines = cert.frames();
     if !is_to_be_placed(kind, matrix.rows()) {
@@ -36,7 +37,6 @@ pub fn check_cert(
             Some(fault) => Err(fault),
         };
     }
-    let items = problem.items().len();
     let mut labels = vec![in alloc; 0u32; items]?;
     let mut order = vec![in alloc; 0u32; items]?;
     let Some(frames) = labels_of(problem, matrix, &mut labels, &mut order) else {

@@ -8,7 +8,6 @@ ghost use Rattle.cert_check.specs.Walk.{HasPlace, IsWalk, Passes, StandsNext, Ta
 
 use crate::frames::frames_at;
 use bandwidth_bound::refutes;
-use class_frame::load_of_frames;
 use grouping_tree::Partial;
 use pack_model::{Memory, Problem};
 use response_test::Evidence;
@@ -87,8 +86,7 @@ impl Walk {
         requires { IsWalk problem.now self.now }
         ensures { result ≡ lower8_of problem.now problem.now.items (labels_of self.now.partial) }
     {
-        let frames = frames_at(&self.partial);
-        8 * load_of_frames(&frames[..self.partial.classes() as usize], problem.hyper())
+        8 * self.partial.kept_load()
     }
 
     /// Whether the classes that are named with evidence are refuted at the place.

@@ -5,19 +5,13 @@ use Rattle.std.specs.List.{range_with_len}
 use Rattle.std.proofs.lemmas.List.FromFn.{map-range_with_len_more}
 use Rattle.pack_model.specs.declared.item.Item.{Item}
 use Rattle.pack_model.specs.Problem.{Parts}
-use Rattle.pack_model.proofs.Laws.{tests}
 use Rattle.busy_period.specs.declared.timed.Timed.{Timed}
 use Rattle.class_frame.specs.Frame.{timed_of_items}
 use Rattle.class_frame.specs.Grouping.{class_of, classes_of}
 use Rattle.grouping_tree.specs.Grouped.{Belongs, labels_of, range_of}
 use Rattle.grouping_tree.specs.declared.partial.Partial.{Partial}
-use Rattle.grouping_tree.proofs.Used.{classes_low}
+use Rattle.cert_check.proofs.Places.{few_classes}
 use Rattle.cert_check.proofs.frames.frames_at.Goals as goal
-
--- at most 128 classes
-few : (problem : Parts) (partial : Partial) → Belongs problem partial → range_of problem partial ≡ problem.items → classes_of (labels_of partial) ≤ 128
-few problem partial belongs whole =
-    omega (arith, classes_low (range_of problem partial) (labels_of partial) belongs.legal, belongs.legal.within, ap length whole, (tests problem belongs.stands).few_items)
 
 -- the frames with one more
 one_more : (frame_of : ℕ → Timed) (frames : List Timed) (label : ℕ) (frame : Timed) (after : List Timed) → take label frames ≡ map frame_of (range_with_len 0 label) → frame ≡ frame_of label → take (label + 1) after ≡ take label frames ++ frame ∷ []
@@ -31,13 +25,13 @@ written : (frames : List Timed) (label : ℕ) (frame : Timed) → label < length
 written frames label frame inside = rw add-one (take-suc-set frames label frame inside)
 
 pub bounds-frames-label : goal.bounds-frames-label
-bounds-frames-label c = omega (arith, c.loop-label.invariant.room, c.classes-label-end.ensures, few c.requires.0 c.args.partial.now c.requires.1 c.requires.2)
+bounds-frames-label c = omega (arith, c.loop-label.invariant.room, c.classes-label-end.ensures, few_classes c.requires.0 c.args.partial.now c.requires.1 c.requires.2)
 
 pub loop-label-preserved : goal.loop-label-preserved
 loop-label-preserved c =
     let frames : List Timed = c.loop-label.frames in
     let inside : c.loop-label.label < length frames =
-    omega (arith, c.loop-label.invariant.room, c.classes-label-end.ensures, few c.requires.0 c.args.partial.now c.requires.1 c.requires.2) in record {
+    omega (arith, c.loop-label.invariant.room, c.classes-label-end.ensures, few_classes c.requires.0 c.args.partial.now c.requires.1 c.requires.2) in record {
       room = omega (arith, c.loop-label.invariant.room, length-set {A = Timed});
       value = λ problem belongs whole.
           one_more (λ label. timed_of_items problem (class_of label (labels_of c.args.partial.now) problem.items)) frames c.loop-label.label c.kept.result.timed
@@ -46,3 +40,6 @@ loop-label-preserved c =
           ∙ ap (λ items. timed_of_items problem (class_of c.loop-label.label (labels_of c.args.partial.now) items)) whole)
           (written frames c.loop-label.label c.kept.result.timed inside);
     }
+
+pub returns-clause-few : goal.returns-clause-few
+returns-clause-few c = few_classes c.requires.0 c.args.partial.now c.requires.1 c.requires.2

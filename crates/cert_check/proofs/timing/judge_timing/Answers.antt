@@ -14,11 +14,11 @@ overflow_cast-order c =
     omega (arith, few_classes c.args.problem.now c.args.labels.now c.network.ensures.problem (front_of c.args.problem.now.items c.args.labels.now c.requires.grouping),
     length-order c.args.labels.now c.args.order.now c.requires.order)
 
-pub class_frames-frames-requires-clause-labels : goal.class_frames-frames-requires-clause-labels
-class_frames-frames-requires-clause-labels c = front_of c.args.problem.now.items c.args.labels.now c.requires.grouping
+pub class_frames-requires-clause-labels : goal.class_frames-requires-clause-labels
+class_frames-requires-clause-labels c = front_of c.args.problem.now.items c.args.labels.now c.requires.grouping
 
-pub class_frames-frames-requires-clause-classes : goal.class_frames-frames-requires-clause-classes
-class_frames-frames-requires-clause-classes c = length-order c.args.labels.now c.args.order.now c.requires.order
+pub class_frames-requires-clause-classes : goal.class_frames-requires-clause-classes
+class_frames-requires-clause-classes c = length-order c.args.labels.now c.args.order.now c.requires.order
 
 pub lines_show-requires-clause-stages : goal.lines_show-requires-clause-stages
 lines_show-requires-clause-stages c = λ place inside.
