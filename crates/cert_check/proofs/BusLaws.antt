@@ -1,5 +1,5 @@
 -- The frames of a placed matrix as those of a bus: no release is late where the lines show that each frame passes.
-use Rattle.std.proofs.Common.{◌≡◌, ℕ, ◌<◌, ◌≤◌, List, [], ◌∷◌, length, get_or, map, filter, nat_eq, All, Option, None, Some, refl, sym, ap, ◌∙◌, subst, arith, zero-add, rules}
+use Rattle.std.proofs.Common.{◌≡◌, ℕ, ◌<◌, List, [], ◌∷◌, length, get_or, map, nat_eq, All, Option, None, Some, refl, sym, ap, ◌∙◌, subst, arith, zero-add, rules}
 use Rattle.std.specs.Prelude.{unwrap_or, slice_index, AllPairs}
 use Rattle.std.specs.List.{list_any, range_with_len}
 use Rattle.std.proofs.lemmas.List.{length-map, get_or-map}

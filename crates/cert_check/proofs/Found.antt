@@ -1,19 +1,18 @@
 -- What follows from what is found of a certificate with a placed matrix.
-use Rattle.std.proofs.Common.{◌≡◌, ◌*◌, ◌^◌, ◌<◌, ℕ, true, false, List, length, arith, Result, Ok, Err, refl, sym, ap, subst, ◌∙◌}
+use Rattle.std.proofs.Common.{◌≡◌, ◌*◌, ◌^◌, ◌<◌, ℕ, false, List, arith, Result, Ok, Err}
 use Rattle.std.specs.Prelude.{OnOk}
 use Rattle.pack_model.specs.Problem.{Parts, IsProblem, IsSorted}
 use Rattle.pack_model.proofs.Laws.{tests}
 use Rattle.class_frame.specs.Classes.{load_of}
-use Rattle.class_frame.specs.Grouping.{IsGrouping, IsOrder}
+use Rattle.class_frame.specs.Grouping.{IsOrder}
 use Rattle.class_frame.specs.Legal.{IsLegal}
 use Rattle.grouping_tree.proofs.Fronts.{legal-partial}
 use Rattle.matrix_rows.specs.declared.matrix.MatrixRow.{MatrixRow}
 use Rattle.matrix_text.specs.Frames.{grouping_of, order_of}
 use Rattle.matrix_text.specs.OnePlace.{OnePlace}
 use Rattle.cert_text.specs.Parts.{CertParts}
-use Rattle.bandwidth_bound.specs.Bus.{NeverLate}
 use Rattle.bandwidth_bound.specs.Covering.{TreesShow}
-use Rattle.bandwidth_bound.specs.Follows.{Holds, HasMatrix, HasTiming}
+use Rattle.bandwidth_bound.specs.Follows.{Holds}
 use Rattle.bandwidth_bound.specs.Rule.{RuleHolds}
 use Rattle.bandwidth_bound.specs.Timing.{TimingStands}
 use Rattle.bandwidth_bound.specs.declared.verdict.Verdict.{Verdict}

@@ -1,5 +1,5 @@
 -- The parts of the acceptance rule by the kind of a certificate, and what is found of a certificate by its kind.
-use Rattle.std.proofs.Common.{◌≡◌, ◌<◌, ◌*◌, ℕ, Bool, true, false, List, [], ◌∷◌, length, get_or, Option, None, Some, true≢false, Ok, Err, Result, refl, sym, ap, subst, ◌∙◌, arith, All, count_by}
+use Rattle.std.proofs.Common.{◌≡◌, ◌<◌, ℕ, true, false, List, [], ◌∷◌, length, Option, None, Some, true≢false, Ok, Err, Result, refl, sym, ap, subst, arith, All, count_by}
 use Rattle.std.proofs.lemmas.List.Elements.{All-head}
 use Rattle.std.specs.Prelude.{unwrap_or}
 use Rattle.pack_model.specs.declared.signal.Signal.{Signal}
@@ -20,7 +20,7 @@ use Rattle.bandwidth_bound.specs.Timing.{TimingStands}
 use Rattle.bandwidth_bound.specs.declared.verdict.Verdict.{Verdict}
 use Rattle.cert_check.specs.Accept.{IsFault, IsFound, judged_of}
 use Rattle.cert_check.specs.Kinds.{FailsWithoutRows, is_kind_placed, is_to_be_placed}
-use Rattle.cert_check.specs.Timing.{ClassesShown, IsTimed}
+use Rattle.cert_check.specs.Timing.{IsTimed}
 use Rattle.cert_check.specs.Trees.{IsAnswer, TreeOfBest, verdict_of}
 use Rattle.cert_check.specs.declared.fault.CheckFault.{CheckFault}
 use Rattle.cert_check.specs.declared.fault.CheckFault.TheVariants as fault
@@ -175,9 +175,12 @@ module _ (problem : Parts) (rows : List MatrixRow) (cert : CertParts) (best : Op
   }
   found_by_trees (Err fault.RejectedMatrix) is = absurd is
   found_by_trees (Err fault.RejectedTiming) is = absurd is
-  found_by_trees (Err fault.RejectedTree) is =
-      (matrix, timing, λ tree.
-      is (subst (λ b. TreeOfBest cert.kind problem b cert) same (of_tree cert.kind problem rows cert tree)))
+  found_by_trees (Err fault.RejectedTree) is = (
+    matrix,
+    timing,
+    λ tree.
+        is (subst (λ b. TreeOfBest cert.kind problem b cert) same (of_tree cert.kind problem rows cert tree)),
+  )
   found_by_trees (Err fault.Memory) is = tt
 
 -- a placed matrix has rows
@@ -210,9 +213,11 @@ module _ (problem : Parts) (rows : List MatrixRow) (cert : CertParts) (is : is_t
   pub fault_without : (why : CheckFault) → FailsWithoutRows rows cert.frames (Some why)
       → IsFault why (judged_of problem rows cert)
   fault_without fault.RejectedMatrix fails = λ holds. fails (rows_without cert.kind problem rows is holds)
-  fault_without fault.RejectedTiming fails =
-      (matrix_without cert.kind problem rows is fails.0, λ holds.
-      fails.1 (lines_without cert.kind problem rows cert.frames is holds))
+  fault_without fault.RejectedTiming fails = (
+    matrix_without cert.kind problem rows is fails.0,
+    λ holds.
+        fails.1 (lines_without cert.kind problem rows cert.frames is holds),
+  )
   fault_without fault.RejectedTree fails = absurd fails
   fault_without fault.Memory fails = absurd fails
 
@@ -233,9 +238,11 @@ module _ (problem : Parts) (rows : List MatrixRow) (cert : CertParts) (is : is_t
       → IsTimed problem (grouping_of problem rows) (order_of problem rows) cert.frames (Err why)
       → IsFault why (judged_of problem rows cert)
   fault_of_lines fault.RejectedMatrix timed = absurd timed
-  fault_of_lines fault.RejectedTiming timed =
-      (matrix_from cert.kind problem rows is placed, λ holds.
-      let stands = timing_to cert.kind problem rows cert.frames is other holds in
-      timed (record { count = stands.count; each = stands.each }))
+  fault_of_lines fault.RejectedTiming timed = (
+    matrix_from cert.kind problem rows is placed,
+    λ holds.
+        let stands = timing_to cert.kind problem rows cert.frames is other holds in
+        timed (record { count = stands.count; each = stands.each }),
+  )
   fault_of_lines fault.RejectedTree timed = absurd timed
   fault_of_lines fault.Memory timed = tt

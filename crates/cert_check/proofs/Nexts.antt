@@ -7,8 +7,8 @@ use Rattle.grouping_tree.specs.Grouped.{labels_of}
 use Rattle.grouping_tree.specs.Walk.{places_left}
 use Rattle.cert_check.specs.declared.walk.Aim.{Aim}
 use Rattle.cert_check.specs.declared.walk.Walk.{Walk}
-use Rattle.cert_check.specs.Nodes.{Node, NodeStands, NodesStand, Takes, bounds_at, bounds_of, lowered, places_of, places_after_nodes}
-use Rattle.cert_check.specs.Walk.{HasPlace, StandsNext, TakesOne, goal_of, places_to_come, way_of}
+use Rattle.cert_check.specs.Nodes.{Node, NodesStand, bounds_at, bounds_of, lowered, places_of, places_after_nodes}
+use Rattle.cert_check.specs.Walk.{StandsNext, TakesOne, goal_of, places_to_come}
 
 module _ (problem : Parts) (aim : Aim) (before after : Walk) (node : Node) where
   -- the places after the one of a walk

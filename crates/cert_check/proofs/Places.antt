@@ -1,6 +1,5 @@
 -- The classes at the place of a walk as frames.
-use Rattle.std.proofs.Common.{◌≡◌, ◌≤◌, ◌<◌, ◌*◌, ◌^◌, ℕ, List, length, take, All, ap, sym, subst, ◌∙◌, arith}
-use Rattle.pack_model.specs.declared.item.Item.{Item}
+use Rattle.std.proofs.Common.{◌≡◌, ◌≤◌, ◌<◌, ◌^◌, List, All, sym, subst, arith}
 use Rattle.pack_model.specs.Problem.{Parts}
 use Rattle.pack_model.proofs.Laws.{tests}
 use Rattle.busy_period.specs.declared.timed.Timed.{Timed}
@@ -9,13 +8,14 @@ use Rattle.response_test.specs.Queueing.{IsBit}
 use Rattle.response_test.specs.Refuted.{IsCommon}
 use Rattle.class_frame.specs.Classes.{frames_of_classes}
 use Rattle.class_frame.specs.Grouping.{classes_of}
-use Rattle.class_frame.proofs.ClassFrames.{nominal_bit}
+use Rattle.class_frame.proofs.ClassFrames.{common_period, nominal_bit}
 use Rattle.grouping_tree.specs.Grouped.{Belongs, labels_of, range_of}
 use Rattle.grouping_tree.specs.Partial.{IsPartial}
 use Rattle.grouping_tree.specs.declared.partial.Partial.{Partial}
 use Rattle.grouping_tree.proofs.Used.{classes_low}
 use Rattle.bandwidth_bound.specs.Bounds.{lower8_of}
-use Rattle.bandwidth_bound.proofs.Final.{all_items, frames_common, frames_in_range}
+use Rattle.bandwidth_bound.proofs.Extend.{are_items, first_labels}
+use Rattle.bandwidth_bound.proofs.Final.{all_items, frames_in_range}
 use Rattle.bandwidth_bound.proofs.Loads.{loads_fit}
 
 module _ (problem : Parts) (partial : Partial) (belongs : Belongs problem partial)
@@ -47,5 +47,5 @@ module _ (problem : Parts) (partial : Partial) (belongs : Belongs problem partia
 
     pub common : IsCommon frames problem.hyper
     common =
-        subst (λ (fs : List Timed). IsCommon fs problem.hyper) (sym is)
-        (frames_common problem belongs.stands problem.items (all_items problem) (labels_of partial) legal)
+        common_period problem (labels_of partial) frames belongs.stands
+        (are_items problem belongs.stands problem.items (all_items problem)) (first_labels problem.items (labels_of partial) legal) is

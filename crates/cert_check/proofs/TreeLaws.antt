@@ -1,5 +1,5 @@
 -- What a walk over a main tree finds.
-use Rattle.std.proofs.Common.{◌≡◌, ℕ, ◌≤◌, ◌*◌, ◌==◌, Bool, true, false, List, [], ◌∷◌, length, map, min, Option, None, Some, Ok, refl, sym, ap, subst, ◌∙◌, arith}
+use Rattle.std.proofs.Common.{◌≡◌, ℕ, ◌≤◌, ◌*◌, ◌==◌, Bool, true, false, List, [], ◌∷◌, length, map, min, Option, None, Some, Ok, sym, ap, subst, ◌∙◌, arith}
 use Rattle.std.specs.Option.{option_map}
 use Rattle.std.proofs.lemmas.Bool.{eqb-true}
 use Rattle.std.proofs.lemmas.List.{length-map}
@@ -20,8 +20,8 @@ use Rattle.cert_check.proofs.Walks.{lowered_least, lowered_none, lowered_some_of
 -- a list whose length is tested to be 0 is empty
 pub empty_from : {A B : Type 0} (f : A → B) (xs : List A) (ys : List B) (b : Bool) → b ≡ (length xs == 0) → b ≡ true
     → map f xs ≡ ys → ys ≡ []
-empty_from f [] ys b is yes same = sym same
-empty_from f (x ∷ xs) ys b is yes same = absurd (omega (arith, eqb-true (length (x ∷ xs)) 0 (sym is ∙ yes)))
+empty_from f [] ys b is true_is same = sym same
+empty_from f (x ∷ xs) ys b is true_is same = absurd (omega (arith, eqb-true (length (x ∷ xs)) 0 (sym is ∙ true_is)))
 
 module _ (problem : Parts) (best : Option ℕ) (may_leave : Bool) (cert : CertParts) (tree : Plain) (value : Option ℕ)
     (before after : Way) (is : Some tree ≡ cert.main_tree) (same : value ≡ option_map (λ load. 8 * load) best)
@@ -42,11 +42,15 @@ module _ (problem : Parts) (best : Option ℕ) (may_leave : Bool) (cert : CertPa
 
   pub trees_found : after.failed ≡ false → cert.lemmas ≡ []
       → TreesStand problem best may_leave cert × (after.least ≡ least_left problem cert)
-  trees_found kept none =
-      ((none, subst (MainStands problem best may_leave) is
-      (subst (λ v. TreeStands (goal_with v) [] tree) same (tree_stands (goal_with value) tree after whole kept))),
-      tree_least (goal_with value) tree after whole kept
-      ∙ ap (λ t. lowered None (map (lower8_of problem problem.items) (open_of problem t))) is)
+  trees_found kept none = (
+    (
+      none,
+      subst (MainStands problem best may_leave) is
+          (subst (λ v. TreeStands (goal_with v) [] tree) same (tree_stands (goal_with value) tree after whole kept)),
+    ),
+    tree_least (goal_with value) tree after whole kept
+        ∙ ap (λ t. lowered None (map (lower8_of problem problem.items) (open_of problem t))) is,
+  )
 
 module _ (problem : Parts) (best : Option ℕ) (cert : CertParts) where
   -- the bounds at the open leaves
@@ -73,6 +77,7 @@ module _ (problem : Parts) (best : Option ℕ) (cert : CertParts) where
   some_open found n lower walked there is =
       let some : 1 ≤ length bounds = lowered_some_of bounds n (sym walked.1 ∙ there) in
       let same : Some n ≡ Some (least bounds) = sym there ∙ walked.1 ∙ lowered_least bounds some in
-      let here : n ≡ least bounds = cc in
-      ((walked.0.0, walked.0.1, omega (arith, some, long)),
-      ap (λ x. verdict.Between best x) (is ∙ lower_same best n here))
+      let here : n ≡ least bounds = cc in (
+        (walked.0.0, walked.0.1, omega (arith, some, long)),
+        ap (λ x. verdict.Between best x) (is ∙ lower_same best n here),
+      )

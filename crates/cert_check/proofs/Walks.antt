@@ -1,5 +1,5 @@
 -- Walks over nodes, one after the other, and over the nodes of a tree.
-use Rattle.std.proofs.Common.{◌≡◌, ◌<◌, ℕ, zero, suc, Bool, true, false, List, [], ◌∷◌, ◌++◌, length, map, get_or, take, ◌+◌, Option, None, Some, refl, sym, ap, subst, ◌∙◌, arith, true≢false, append_assoc, min, fold, ◌≤◌}
+use Rattle.std.proofs.Common.{◌≡◌, ◌<◌, ℕ, suc, Bool, true, false, List, [], ◌∷◌, ◌++◌, length, map, get_or, take, ◌+◌, Option, None, Some, refl, sym, ap, subst, ◌∙◌, arith, true≢false, append_assoc, min, fold, ◌≤◌}
 use Rattle.std.proofs.lemmas.List.{flat_map_more, length-map, map-append, take_more}
 use Rattle.std.proofs.lemmas.List.Folds.{flat_map-map}
 use Rattle.std.specs.List.{flat_map}
@@ -8,11 +8,8 @@ use Rattle.cert_text.specs.PlainTree.{onto}
 use Rattle.cert_text.specs.Trees.{Plain, Plains, bound, fail, inner, left, more, none}
 use Rattle.response_test.specs.declared.evidence.Evidence.{Evidence}
 use Rattle.grouping_tree.specs.Partial.{options_of}
-use Rattle.bandwidth_bound.specs.Bounds.{Reaches}
-use Rattle.grouping_tree.specs.Walk.{places_below}
-use Rattle.pack_model.specs.declared.item.Item.{Item}
 use Rattle.bandwidth_bound.specs.Trees.{Goal, TreeStands, EachStands, open_places, open_places_each}
-use Rattle.cert_check.specs.Nodes.{Node, inner_node, bound_leaf, open_leaf, fail_leaf, count_trees, nodes_of, nodes_of_each, NodeStands, places_of, bounds_at, NodesStand, places_after_nodes, bounds_of, lowered, Way, Takes}
+use Rattle.cert_check.specs.Nodes.{Node, inner_node, bound_leaf, open_leaf, fail_leaf, count_trees, nodes_of, nodes_of_each, places_of, bounds_at, NodesStand, places_after_nodes, bounds_of, lowered, Way, Takes}
 
 -- ---- nodes and then further ones
 
@@ -171,6 +168,7 @@ module _ (goal : Goal) where
 
   mutual
     unfolding nodes_of nodes_of_each NodesStand places_after_nodes bounds_of
+
     -- where the tree stands
     pub walked : (p : List ℕ) (rest : List (List ℕ)) (t : Plain) → TreeStands goal p t → TreeWalked p rest t
     walked p rest (inner ts) h =
@@ -204,6 +202,7 @@ module _ (goal : Goal) where
 
   mutual
     unfolding nodes_of nodes_of_each NodesStand
+
     -- a tree whose nodes stand stands
     pub stood : (p : List ℕ) (rest : List (List ℕ)) (t : Plain) → NodesStand goal (p ∷ rest) (nodes_of t) → TreeStands goal p t
     stood p rest (inner ts) h = (h.0.0, stood_each p (options_of goal.items p) rest ts h.0.1 h.1)
@@ -218,9 +217,11 @@ module _ (goal : Goal) where
     stood_each p (label ∷ labels) rest (more t ts) e h =
         let here : List ℕ = p ++ label ∷ [] in
         let later : List (List ℕ) = put_each p labels ++ rest in
-        let one : TreeStands goal here t = stood here later t (stand_first goal (here ∷ later) (nodes_of t) (nodes_of_each ts) h) in
-        (one, stood_each p labels rest ts (omega (arith, e))
-        (subst (λ ps. NodesStand goal ps (nodes_of_each ts)) (walked here later t one).after (stand_further goal (here ∷ later) (nodes_of t) (nodes_of_each ts) h)))
+        let one : TreeStands goal here t = stood here later t (stand_first goal (here ∷ later) (nodes_of t) (nodes_of_each ts) h) in (
+          one,
+          stood_each p labels rest ts (omega (arith, e))
+              (subst (λ ps. NodesStand goal ps (nodes_of_each ts)) (walked here later t one).after (stand_further goal (here ∷ later) (nodes_of t) (nodes_of_each ts) h)),
+        )
 
 -- ---- a walk over a whole tree
 

@@ -1,6 +1,5 @@
 -- A walk over the nodes of a tree in preorder, which judges each at the place where it stands: the project's own.
-use Rattle.std.specs.Prelude.{◌≡◌, ◌<◌, ⊤, ℕ, suc, zero, Bool, true, false, min, List, [], ◌∷◌, ◌++◌, length, map, Option, None, Some}
-use Rattle.pack_model.specs.declared.item.Item.{Item}
+use Rattle.std.specs.Prelude.{◌≡◌, ◌<◌, ⊤, ℕ, suc, zero, Bool, true, false, min, List, [], ◌∷◌, ◌++◌, length, Option, None, Some}
 use Rattle.cert_text.specs.Trees.{Plain, Plains, bound, fail, inner, left, more, none}
 use Rattle.response_test.specs.declared.evidence.Evidence.{Evidence}
 use Rattle.grouping_tree.specs.Partial.{options_of}

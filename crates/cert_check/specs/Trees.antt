@@ -1,5 +1,5 @@
 -- What is found of the trees of a certificate, where its matrix and its times hold.
-use Rattle.std.specs.Prelude.{◌≡◌, ◌≤◌, ◌<◌, ◌*◌, ◌^◌, ⊤, ℕ, min, Bool, true, false, List, [], length, map, Option, None, Some, Result, Ok, Err, unwrap_or}
+use Rattle.std.specs.Prelude.{◌≡◌, ◌≤◌, ◌<◌, ◌*◌, ◌^◌, ⊤, ℕ, min, Bool, true, false, [], length, map, Option, None, Some, Result, Ok, Err, unwrap_or}
 use Rattle.pack_model.specs.Problem.{Parts}
 use Rattle.cert_text.specs.declared.parts.Kind.{Kind}
 use Rattle.cert_text.specs.declared.parts.Kind.TheVariants.{KindPlaced, KindTimed, KindBetween, KindBest, KindNoSolution}

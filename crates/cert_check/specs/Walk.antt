@@ -1,5 +1,5 @@
 -- What a walk is to show, and where it is.
-use Rattle.std.specs.Prelude.{◌≡◌, List, [], ◌∷◌, ℕ, Bool, true, false, Option, None, if◌then◌else◌}
+use Rattle.std.specs.Prelude.{◌≡◌, List, [], ◌∷◌, ℕ, false, None, if◌then◌else◌}
 use Rattle.pack_model.specs.Problem.{Parts}
 use Rattle.grouping_tree.specs.Grouped.{Belongs, labels_of, range_of}
 use Rattle.bandwidth_bound.specs.Rule.{ClassesFail}

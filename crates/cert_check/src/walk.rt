@@ -96,7 +96,12 @@ impl Walk {
     {
         let frames = frames_at(&self.partial);
         let bit = u64::from(problem.network().nominal_ticks);
-        refutes(&frames[..self.partial.classes() as usize], bit, problem.hyper(), named)
+        refutes(
+            &frames[..self.partial.classes() as usize],
+            bit,
+            problem.hyper(),
+            named,
+        )
     }
 
     /// Whether an inner node with so many subtrees stands at the next place.

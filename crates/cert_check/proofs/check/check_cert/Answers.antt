@@ -1,5 +1,4 @@
-use Rattle.std.proofs.Common.{◌≡◌, ◌<◌, ◌++◌, ℕ, List, All, length, take, ap, sym, ◌∙◌, subst, arith, length-take-le, true, false, Result, Ok, Err}
-use Rattle.std.specs.Prelude.{OnOk}
+use Rattle.std.proofs.Common.{◌≡◌, ◌++◌, ℕ, List, length, take, ap, sym, ◌∙◌, subst, arith, length-take-le, Bool, true, false, Ok, Err, None, Some}
 use Rattle.std.proofs.lemmas.List.{take-append-le, take_all}
 use Rattle.pack_model.specs.Problem.{Parts}
 use Rattle.class_frame.specs.Classes.{load_of}
@@ -8,12 +7,10 @@ use Rattle.class_frame.specs.Legal.{IsLegal}
 use Rattle.class_frame.proofs.GroupingLaws.{classes_of-le-length}
 use Rattle.matrix_rows.specs.declared.matrix.MatrixRow.{MatrixRow}
 use Rattle.matrix_text.specs.Frames.{grouping_of, order_of}
-use Rattle.bandwidth_bound.specs.declared.verdict.Verdict.{Verdict}
-use Rattle.bandwidth_bound.specs.Follows.{Holds}
-use Rattle.cert_check.specs.declared.fault.CheckFault.{CheckFault}
-use Rattle.cert_check.specs.Accept.{IsFound, judged_of}
-use Rattle.cert_check.specs.Kinds.{is_kind_placed, is_to_be_placed}
-use Rattle.cert_check.specs.Timing.{ClassesPass, ClassesShown, IsTimed}
+use Rattle.cert_text.specs.declared.parts.Kind.{Kind}
+use Rattle.cert_text.specs.Parts.{CertParts}
+use Rattle.cert_check.specs.Kinds.{FailsWithoutRows, is_kind_placed, is_to_be_placed}
+use Rattle.cert_check.specs.Timing.{IsTimed}
 use Rattle.cert_check.proofs.Found.{holds_placed, holds_without, load_fits}
 use Rattle.cert_check.proofs.KindLaws.{fault_of_lines, fault_without, found_with_load, found_without}
 use Rattle.cert_check.proofs.check.check_cert.Goals as goal
@@ -42,17 +39,46 @@ judge_timing-requires-clause-order c =
 pub judge_trees-requires-in-Ok : goal.judge_trees-requires-in-Ok
 judge_trees-requires-in-Ok c =
     let labels : c.deref.result.now ≡ c.labels_of.new.labels = c.deref.ensures.value ∙ whole _ _ _ (omega (arith, c.labels_of.auto.labels, c.deref_mut.ensures.len)) in
-    omega (arith, c.in-Ok.ensures.found.1, ap (load_of c.args.problem.now c.args.problem.now.items) labels,
-    load_fits c.args.problem.now c.items-items.ensures.problem c.labels_of.new.labels c.in-Some-labels_of.ensures.legal)
+    omega (
+      arith,
+      c.in-Ok.ensures.found.1,
+      ap (load_of c.args.problem.now c.args.problem.now.items) labels,
+      load_fits c.args.problem.now c.items-items.ensures.problem c.labels_of.new.labels c.in-Some-labels_of.ensures.legal,
+    )
+
+-- what is tested where the matrix is to have no rows
+without : (cert : CertParts) (rows rows' : List MatrixRow) (kind : Kind) (answer : Bool)
+    → answer ≡ is_to_be_placed kind rows' → answer ≡ false → kind ≡ cert.kind → rows' ≡ rows → is_to_be_placed cert.kind rows ≡ false
+without cert rows rows' kind answer said no_rows same at =
+    sym (ap (λ k. is_to_be_placed k rows') same ∙ ap (is_to_be_placed cert.kind) at) ∙ sym said ∙ no_rows
 
 pub returns-in-None-clause-found : goal.returns-in-None-clause-found
-returns-in-None-clause-found c = ?
+returns-in-None-clause-found c =
+    let rows : List MatrixRow = c.args.matrix.now in
+    let is : is_to_be_placed c.args.cert.now.kind rows ≡ false =
+    without c.args.cert.now rows c.rows.result.now c.kind-kind.result c.is_to_be_placed.result
+    c.is_to_be_placed.ensures c.if-not-is_to_be_placed.true c.kind-kind.ensures.value c.rows.ensures.rows in
+    let none : FailsWithoutRows rows c.args.cert.now.frames None =
+    (sym c.rows-then-not-is_to_be_placed.ensures.rows ∙ c.in-None.ensures.0, sym c.frames-lines.ensures ∙ c.in-None.ensures.1) in
+    found_without c.args.problem.now rows c.args.cert.now is none c.judge_trees.result c.judge_trees.ensures
 
 pub returns-in-None-clause-holds : goal.returns-in-None-clause-holds
-returns-in-None-clause-holds c = ?
+returns-in-None-clause-holds c =
+    let rows : List MatrixRow = c.args.matrix.now in
+    let is : is_to_be_placed c.args.cert.now.kind rows ≡ false =
+    without c.args.cert.now rows c.rows.result.now c.kind-kind.result c.is_to_be_placed.result
+    c.is_to_be_placed.ensures c.if-not-is_to_be_placed.true c.kind-kind.ensures.value c.rows.ensures.rows in
+    holds_without c.args.problem.now rows c.args.cert.now c.items-items.ensures.problem is c.judge_trees.result (returns-in-None-clause-found c)
 
 pub returns-in-Some-clause-found : goal.returns-in-Some-clause-found
-returns-in-Some-clause-found c = ?
+returns-in-Some-clause-found c =
+    let rows : List MatrixRow = c.args.matrix.now in
+    let is : is_to_be_placed c.args.cert.now.kind rows ≡ false =
+    without c.args.cert.now rows c.rows.result.now c.kind-kind.result c.is_to_be_placed.result
+    c.is_to_be_placed.ensures c.if-not-is_to_be_placed.true c.kind-kind.ensures.value c.rows.ensures.rows in
+    fault_without c.args.problem.now rows c.args.cert.now is c.in-Some.fault
+    (subst (λ ls. FailsWithoutRows rows ls (Some c.in-Some.fault)) c.frames-lines.ensures
+    (subst (λ rs. FailsWithoutRows rs c.frames-lines.result.now (Some c.in-Some.fault)) c.rows-then-not-is_to_be_placed.ensures.rows c.in-Some.ensures))
 
 pub returns-in-Ok-clause-found : goal.returns-in-Ok-clause-found
 returns-in-Ok-clause-found c =

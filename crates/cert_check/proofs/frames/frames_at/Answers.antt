@@ -1,15 +1,12 @@
-use Rattle.std.proofs.Common.{◌≡◌, ◌+◌, ◌<◌, ◌≤◌, ◌++◌, ◌∷◌, [], ℕ, List, length, map, take, ap, sym, ◌∙◌, subst, arith, zero-add, add-one, length-set}
+use Rattle.std.proofs.Common.{◌≡◌, ◌+◌, ◌<◌, ◌++◌, ◌∷◌, [], ℕ, List, length, map, take, ap, sym, ◌∙◌, arith, zero-add, add-one, length-set}
 use Rattle.std.proofs.Math.Seq.{take-suc-set}
 use Rattle.std.proofs.Math.ListN.{set}
 use Rattle.std.specs.List.{range_with_len}
 use Rattle.std.proofs.lemmas.List.FromFn.{map-range_with_len_more}
-use Rattle.pack_model.specs.declared.item.Item.{Item}
-use Rattle.pack_model.specs.Problem.{Parts}
 use Rattle.busy_period.specs.declared.timed.Timed.{Timed}
 use Rattle.class_frame.specs.Frame.{timed_of_items}
-use Rattle.class_frame.specs.Grouping.{class_of, classes_of}
-use Rattle.grouping_tree.specs.Grouped.{Belongs, labels_of, range_of}
-use Rattle.grouping_tree.specs.declared.partial.Partial.{Partial}
+use Rattle.class_frame.specs.Grouping.{class_of}
+use Rattle.grouping_tree.specs.Grouped.{labels_of}
 use Rattle.cert_check.proofs.Places.{few_classes}
 use Rattle.cert_check.proofs.frames.frames_at.Goals as goal
 

@@ -1,4 +1,4 @@
-use Rattle.std.proofs.Common.{ℕ, List, ◌≡◌, ◌<◌, length, All, ap, sym, ◌∙◌, subst, arith}
+use Rattle.std.proofs.Common.{List, ◌≡◌, length, All, ap, sym, ◌∙◌, subst, arith}
 use Rattle.pack_model.specs.declared.network.Network.{Network}
 use Rattle.pack_model.proofs.Laws.{tests}
 use Rattle.busy_period.specs.declared.timed.Timed.{Timed}
@@ -11,8 +11,11 @@ use Rattle.cert_check.proofs.timing.judge_timing.Goals as goal
 
 pub overflow_cast-order : goal.overflow_cast-order
 overflow_cast-order c =
-    omega (arith, few_classes c.args.problem.now c.args.labels.now c.network.ensures.problem (front_of c.args.problem.now.items c.args.labels.now c.requires.grouping),
-    length-order c.args.labels.now c.args.order.now c.requires.order)
+    omega (
+      arith,
+      few_classes c.args.problem.now c.args.labels.now c.network.ensures.problem (front_of c.args.problem.now.items c.args.labels.now c.requires.grouping),
+      length-order c.args.labels.now c.args.order.now c.requires.order,
+    )
 
 pub class_frames-requires-clause-labels : goal.class_frames-requires-clause-labels
 class_frames-requires-clause-labels c = front_of c.args.problem.now.items c.args.labels.now c.requires.grouping
@@ -36,8 +39,12 @@ load_of_frames-requires-clause-hyper c = omega (arith, c.hyper.ensures.hyper, (t
 
 pub load_of_frames-requires-clause-few : goal.load_of_frames-requires-clause-few
 load_of_frames-requires-clause-few c =
-    omega (arith, ap length c.deref-2.ensures.value, c.in_ok-frames.ensures.count,
-    few_classes c.args.problem.now c.args.labels.now c.network.ensures.problem (front_of c.args.problem.now.items c.args.labels.now c.requires.grouping))
+    omega (
+      arith,
+      ap length c.deref-2.ensures.value,
+      c.in_ok-frames.ensures.count,
+      few_classes c.args.problem.now c.args.labels.now c.network.ensures.problem (front_of c.args.problem.now.items c.args.labels.now c.requires.grouping),
+    )
 
 pub load_of_frames-requires-clause-in_range : goal.load_of_frames-requires-clause-in_range
 load_of_frames-requires-clause-in_range c = subst (All IsInRange) (sym c.deref-2.ensures.value) c.in_ok-frames.ensures.in_range

@@ -1,13 +1,12 @@
-use Rattle.std.proofs.Common.{◌∷◌, [], List, ap, arith, sym, subst, ◌∙◌, ◌≡◌, map, take, refl, ℕ, length}
+use Rattle.std.proofs.Common.{◌∷◌, [], List, ap, sym, subst, ◌∙◌, length}
 use Rattle.std.proofs.lemmas.List.{take_all}
 use Rattle.std.specs.List.{flat_map}
 use Rattle.cert_text.specs.declared.parts.Tree.{Tree}
-use Rattle.cert_text.specs.PlainTree.{onto, plain_of}
-use Rattle.cert_text.specs.Trees.{Plain, inner, none}
+use Rattle.cert_text.specs.PlainTree.{plain_of}
 use Rattle.cert_check.specs.Nodes.{Node, Takes, fail_leaf, inner_node, nodes_of}
 use Rattle.cert_check.specs.Walk.{goal_of, way_of}
 use Rattle.cert_text.proofs.Trees.{plain-Bound, plain-Fail, plain-Inner, plain-Left}
-use Rattle.cert_check.proofs.Walks.{nodes_of_bound, nodes_of_fail, nodes_of_inner, nodes_of_left, takes_any, takes_more}
+use Rattle.cert_check.proofs.Walks.{nodes_of_bound, nodes_of_fail, nodes_of_inner, nodes_of_left, takes_more}
 use Rattle.cert_check.proofs.tree.+tree.Goals as goal
 
 pub take_subtrees-loop-subtree-preserved : goal.take_subtrees-loop-subtree-preserved

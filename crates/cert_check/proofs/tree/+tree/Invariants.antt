@@ -1,4 +1,4 @@
-use Rattle.std.proofs.Common.{◌≡◌, ◌∷◌, length, take}
+use Rattle.std.proofs.Common.{◌∷◌, length, take}
 use Rattle.std.specs.List.{flat_map}
 use Rattle.cert_text.specs.PlainTree.{plain_of}
 use Rattle.cert_check.specs.Nodes.{Takes, inner_node, nodes_of}

@@ -1,4 +1,4 @@
-use Rattle.std.proofs.Common.{ap, sym, ◌∙◌}
+use Rattle.std.proofs.Common.{sym, ◌∙◌}
 use Rattle.cert_text.specs.PlainTree.{plain_lemma, plain_of}
 use Rattle.cert_check.specs.Walk.{way_of}
 use Rattle.cert_check.proofs.TreeLaws.{empty_from, trees_fail, trees_found}

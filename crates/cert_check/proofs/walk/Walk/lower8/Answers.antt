@@ -1,6 +1,6 @@
 use Rattle.std.proofs.Common.{◌≡◌, ◌*◌, ap, ◌∙◌, arith}
 use Rattle.class_frame.specs.Classes.{load_of}
-use Rattle.grouping_tree.specs.Grouped.{labels_of, range_of}
+use Rattle.grouping_tree.specs.Grouped.{labels_of}
 use Rattle.cert_check.proofs.Places.{bound_low}
 use Rattle.cert_check.proofs.walk.Walk.lower8.Goals as goal
 

@@ -1,4 +1,4 @@
-use Rattle.std.proofs.Common.{◌∷◌, ◌≡◌, List, ℕ, ap, sym, ◌∙◌, refl}
+use Rattle.std.proofs.Common.{◌∷◌, List, ℕ, ap, sym, ◌∙◌, refl}
 use Rattle.pack_model.specs.declared.item.Item.{Item}
 use Rattle.grouping_tree.specs.Grouped.{labels_of}
 use Rattle.grouping_tree.specs.Walk.{places_left}

@@ -1,9 +1,7 @@
-use Rattle.std.proofs.Common.{◌≡◌, ℕ, List, take, ap, sym, subst, ◌∙◌, arith, length-take-le}
+use Rattle.std.proofs.Common.{◌≡◌, take, ap, sym, subst, ◌∙◌, arith, length-take-le}
 use Rattle.pack_model.specs.declared.network.Network.{Network}
-use Rattle.busy_period.specs.declared.timed.Timed.{Timed}
 use Rattle.response_test.specs.Queueing.{IsBit}
 use Rattle.response_test.specs.Refuted.{IsCommon}
-use Rattle.bandwidth_bound.specs.Failing.{AreRefuted}
 use Rattle.cert_check.proofs.Places.{bit, common, in_range}
 use Rattle.cert_check.proofs.walk.Walk.refutes.Goals as goal
 

@@ -1,7 +1,6 @@
-use Rattle.std.proofs.Common.{◌++◌, ◌∷◌, ◌≡◌, List, ℕ, arith, ap, sym, subst, ◌∙◌, refl, true, cond, [], zero}
-use Rattle.grouping_tree.specs.Grouped.{labels_of, range_of}
+use Rattle.std.proofs.Common.{◌++◌, ◌∷◌, List, ℕ, arith, ap, sym, ◌∙◌, refl, true, cond, []}
+use Rattle.grouping_tree.specs.Grouped.{labels_of}
 use Rattle.grouping_tree.specs.Walk.{places_below, places_left}
-use Rattle.pack_model.specs.declared.item.Item.{Item}
 use Rattle.cert_check.specs.Nodes.{inner_node}
 use Rattle.cert_check.specs.Walk.{StandsNext}
 use Rattle.cert_check.proofs.Nexts.{denied, node_fails, node_taken, said}

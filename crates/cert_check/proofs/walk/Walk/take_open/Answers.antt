@@ -1,4 +1,4 @@
-use Rattle.std.proofs.Common.{◌≡◌, ap, sym, ◌∙◌, refl, Some, ◌∷◌, [], true}
+use Rattle.std.proofs.Common.{ap, ◌∙◌, refl, Some, ◌∷◌, [], true}
 use Rattle.cert_check.specs.Nodes.{lowered, open_leaf}
 use Rattle.cert_check.specs.Walk.{StandsNext}
 use Rattle.cert_check.proofs.Nexts.{denied, node_fails, node_taken, said}
