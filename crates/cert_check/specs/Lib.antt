@@ -1,3 +1,6 @@
 pub mod Accept
 pub mod Kinds
+pub mod Nodes
 pub mod Timing
+pub mod Trees
+pub mod Walk

@@ -4,8 +4,9 @@ ghost use Rattle.bandwidth_bound.specs.Follows.{Holds};
 ghost use Rattle.cert_check.specs.Accept.{IsFound, judged_of};
 
 use crate::fault::CheckFault;
-use crate::kinds::{answer_with_load, fault_without_rows, is_kind_placed, is_to_be_placed};
+use crate::kinds::{fault_without_rows, is_kind_placed, is_to_be_placed};
 use crate::timing::judge_timing;
+use crate::trees::judge_trees;
 use bandwidth_bound::Verdict;
 use cert_text::Cert;
 use matrix_text::{Matrix, labels_of};
@@ -16,8 +17,8 @@ use std::alloc::Global;
 ///
 /// # Errors
 ///
-/// The first part of the rule that fails: `RejectedMatrix`, `RejectedTiming` or `RejectedTree`, the last for each kind
-/// with trees, which are not judged yet; `Memory` where memory runs out.
+/// The first part of the rule that fails: `RejectedMatrix`, `RejectedTiming` or `RejectedTree`, the last for
+/// each certificate with a lemma too; `Memory` where memory runs out.
 pub fn check_cert(
     alloc: Global,
     problem: &Problem,
@@ -27,12 +28,15 @@ pub fn check_cert(
     ensures found { IsFound problem.now matrix.now cert.now result }
     ensures holds { OnOk result (Holds (judged_of problem.now matrix.now cert.now)) }
 {
+    let items = problem.items().len();
     let kind = cert.kind();
     let lines = cert.frames();
     if !is_to_be_placed(kind, matrix.rows()) {
-        return Err(fault_without_rows(matrix.rows(), lines));
+        return match fault_without_rows(matrix.rows(), lines) {
+            None => judge_trees(alloc, problem, cert, None),
+            Some(fault) => Err(fault),
+        };
     }
-    let items = problem.items().len();
     let mut labels = vec![in alloc; 0u32; items]?;
     let mut order = vec![in alloc; 0u32; items]?;
     let Some(frames) = labels_of(problem, matrix, &mut labels, &mut order) else {
@@ -42,7 +46,7 @@ pub fn check_cert(
         return Ok(Verdict::Placed);
     }
     match judge_timing(alloc, problem, &labels, &order[..frames as usize], lines) {
-        Ok(load) => answer_with_load(kind, load),
+        Ok(load) => judge_trees(alloc, problem, cert, Some(load)),
         Err(fault) => Err(fault),
     }
 }

@@ -1,9 +1,8 @@
 //! Which parts are judged of a kind of certificate.
 ghost use Rattle.std.specs.Prelude.{◌≡◌};
-ghost use Rattle.cert_check.specs.Kinds.{FailsWithoutRows, answer_with_load, is_kind_placed, is_to_be_placed};
+ghost use Rattle.cert_check.specs.Kinds.{FailsWithoutRows, is_kind_placed, is_to_be_placed};
 
 use crate::fault::CheckFault;
-use bandwidth_bound::Verdict;
 use cert_text::{FrameLine, Kind};
 use matrix_text::MatrixRow;
 
@@ -28,27 +27,15 @@ pub(crate) fn is_kind_placed(kind: Kind) -> bool
     }
 }
 
-/// The first part that fails of a certificate whose matrix is to have no rows.
-pub(crate) fn fault_without_rows(rows: &[MatrixRow], lines: &[FrameLine]) -> CheckFault
+/// The part that fails of a certificate whose matrix is to have no rows, if the matrix or the times fail.
+pub(crate) fn fault_without_rows(rows: &[MatrixRow], lines: &[FrameLine]) -> Option<CheckFault>
     ensures { FailsWithoutRows rows.now lines.now result }
 {
     if !rows.is_empty() {
-        CheckFault::RejectedMatrix
+        Some(CheckFault::RejectedMatrix)
     } else if !lines.is_empty() {
-        CheckFault::RejectedTiming
+        Some(CheckFault::RejectedTiming)
     } else {
-        CheckFault::RejectedTree
-    }
-}
-
-/// The answer where each frame is shown to pass, with the load of the matrix in ticks a common period.
-pub(crate) fn answer_with_load(kind: Kind, load: u128) -> Result<Verdict, CheckFault>
-    ensures { result ≡ answer_with_load kind load }
-{
-    match kind {
-        Kind::KindTimed => Ok(Verdict::Timed { load }),
-        Kind::KindPlaced | Kind::KindBetween | Kind::KindBest | Kind::KindNoSolution => {
-            Err(CheckFault::RejectedTree)
-        }
+        None
     }
 }

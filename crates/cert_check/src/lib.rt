@@ -1,14 +1,20 @@
 //! Whether a certificate shows what it says of a matrix.
 //!
-//! The one contract that upper crates use is that of [`check_cert`]: it answers by the acceptance rule, with the verdict
-//! of the certificate's kind or the first part that fails, and where it gives a verdict, what follows from it holds.
+//! The one contract that upper crates use is that of [`check_cert`]: it answers by the acceptance rule, with
+//! the verdict of the certificate's kind or the first part that fails, and where it gives a verdict, what
+//! follows from it holds.
 #![tactic(auto)]
 
 mod check;
 mod fault;
+mod frames;
 mod kinds;
 mod timing;
+mod tree;
+mod trees;
+mod walk;
 
 pub use bandwidth_bound::Verdict;
 pub use check::check_cert;
 pub use fault::CheckFault;
+pub use walk::{Aim, Walk};
