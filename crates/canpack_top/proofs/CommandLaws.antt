@@ -13,8 +13,8 @@ use Rattle.bandwidth_bound.specs.declared.verdict.Part.{Part}
 use Rattle.bandwidth_bound.specs.declared.verdict.Part.TheVariants as part
 use Rattle.canpack_top.specs.declared.verdict.Found.{Found}
 use Rattle.canpack_top.specs.declared.verdict.Found.TheVariants as found
-use Rattle.canpack_top.specs.Answer.{Answered, IsAnswer, IsAnswered, IsExcused, IsRefused}
-use Rattle.canpack_top.specs.Check.{Accepts, HasAll, HasNoneLate, HasOnePlace, HasPassing, IsAnswerOf, Rejects, check_answer, check_meaning, texts_at}
+use Rattle.canpack_top.specs.Answer.{Answered, IsAnswer, IsAnswered, IsExcused, IsRefused, SaysLine}
+use Rattle.canpack_top.specs.Check.{Accepts, AcceptsWith, HasAll, HasNoneLate, HasOnePlace, HasPassing, IsAnswerOf, Rejects, check_answer, check_meaning, texts_at}
 use Rattle.canpack_top.specs.Command.{command_of, names_in}
 use Rattle.canpack_top.specs.Commands.{IsCheck, IsPlan, OfCommand, meaning_of}
 use Rattle.canpack_top.specs.Ending.{number_of}
@@ -216,21 +216,35 @@ module _ {words : List (String Global)} {before now : Files} {said_before said_n
       let all : Own (check_meaning (names_in words)) before now status.Rejected = rejects _ check.1 five in
       ok_and (texts_at (names_in words) before) _ _ (λ judged h. rejected_of all.answer judged h.0 all.has_status h.1 h.2) (all.finishes.answers told)
 
-  -- `plan` has written at status 0
-  pub plan_done : number ≡ 0 → IsSome before → IsPlan words → IsPlanned (names_in words) before now
-  plan_done zero told plan =
-      let all : Own (plan_meaning (names_in words)) before now status.Done = done _ plan.2 zero in all.finishes.leaves told
+  -- the line of a command that is done was said
+  said_line : (given : Command) → command_of words ≡ Some given → (zero : number ≡ 0) → (P : List ℕ → Type 0)
+      → ((answer : Answer) → Finishes (meaning_of given words) before now answer → P answer.line) → SaysLine said_before said_now P
+  said_line given is zero P each =
+      let all : Answered number words before now said_before said_now = called.answered (inl zero) in
+      let is_done : all.0.status ≡ status.Done = done_number all.0.status (sym zero ∙ all.1) in
+      let finishes : Finishes (meaning_of given words) before now all.0 =
+      own (meaning_of given words) before now all.0 (λ h. let e : status.Done ≡ status.Refused = sym is_done ∙ h in cc)
+      (of_words words given (λ m. Ends m before now all.0) is all.2) in
+      (all.0.line, all.3, each all.0 finishes)
 
-  -- `check` accepts what `plan` wrote at status 0
+  -- `plan` has written at status 0
+  pub plan_done : number ≡ 0 → IsSome before → IsPlan words → SaysLine said_before said_now (IsPlanned (names_in words) before now)
+  plan_done zero told plan = said_line _ plan.2 zero _ (λ answer finishes. finishes.leaves told)
+
+  -- `check` accepts what `plan` wrote at status 0, with the line that was said
+  pub plan_accepted_line : number ≡ 0 → IsSome before → IsPlan words → SaysLine said_before said_now (AcceptsWith (names_in words) now)
+  plan_accepted_line zero told plan = said_line _ plan.2 zero _ (λ answer finishes. finishes.shows told)
+
   pub plan_accepted : number ≡ 0 → IsSome before → IsPlan words → Accepts (names_in words) now
   plan_accepted zero told plan =
-      let all : Own (plan_meaning (names_in words)) before now status.Done = done _ plan.2 zero in all.finishes.shows told
+      let all : Own (plan_meaning (names_in words)) before now status.Done = done _ plan.2 zero in
+      ok_and (texts_at (names_in words) now) _ IsAccepted (λ judged h. (h.0, h.1)) (all.finishes.shows told)
 
   -- `plan` never rejects
   plan_rejects : number ≡ 5 → IsPlan words → ⊥
   plan_rejects five plan =
       let all : Own (plan_meaning (names_in words)) before now status.Rejected = rejects _ plan.2 five in
-      let e : status.Done ≡ status.Rejected = sym (ap (λ a. a.status) all.finishes.has) ∙ all.has_status in cc
+      let e : status.Done ≡ status.Rejected = sym (ap (λ a. a.status) all.finishes.has.2) ∙ all.has_status in cc
 
   -- where the words are the line of a command, its status is that of an answer, or excused
   by_status : {G : Type 0} → (IsNone (command_of words) → ⊥) → (number ≡ 0 → G) → (number ≡ 4 → G) → (number ≡ 5 → G) → (IsExcused number → G) → G

@@ -1,5 +1,5 @@
 -- How commands run.
-use Rattle.std.proofs.Common.{◌≡◌, ◌≢◌, ◌≤◌, ◌∙◌, ◌⊎◌, ℕ, List, [], ◌∷◌, arith, None, Some, Result, Ok, Err, IfOk, IsOkAnd, IsErr, IsErrOf, IsSome, OnErr, OnOk, option_map, ap, sym, inl, inr, subst, refl}
+use Rattle.std.proofs.Common.{◌≡◌, ◌≢◌, ◌≤◌, ◌∙◌, ◌⊎◌, ℕ, List, [], ◌∷◌, arith, None, Some, Result, Ok, Err, IfOk, IsOkAnd, IsErr, IsErrOf, IsSome, OnErr, option_map, ap, sym, inl, inr, subst, refl}
 use Rattle.std.specs.Prelude.{String}
 use Rattle.std.specs.Result.{result_err}
 use Rattle.std.specs.declared.alloc.Global.{Global}
@@ -17,32 +17,34 @@ use Rattle.canpack_top.specs.declared.ending.Stop.TheVariants as stop
 use Rattle.canpack_top.specs.declared.refusal.Refusal.{Refusal}
 use Rattle.canpack_top.specs.declared.verdict.Found.{Found}
 use Rattle.canpack_top.specs.declared.verdict.Found.TheVariants as found
-use Rattle.canpack_top.specs.Check.{Accepts, HasAll, IsAnswerOf, check_answer, check_meaning, texts_at}
+use Rattle.canpack_top.specs.Check.{AcceptsWith, HasAll, IsAnswerOf, check_answer, check_meaning, texts_at}
 use Rattle.canpack_top.specs.declared.command.Command.{Command}
 use Rattle.canpack_top.specs.Command.{Names}
 use Rattle.canpack_top.specs.Commands.{meaning_of}
 use Rattle.canpack_top.specs.Files.{problem_at}
 use Rattle.canpack_top.specs.Line.{refused_line}
 use Rattle.canpack_top.specs.Meaning.{Ends, Meaning, Runs, Stops, seen}
-use Rattle.canpack_top.specs.Plan.{plan_answer, plan_meaning, planned_text}
+use Rattle.canpack_top.specs.Plan.{PlanPartWritten, PlanWritten, plan_meaning}
+use Rattle.plan_search.specs.Alone.{verdict_alone}
 use Rattle.canpack_top.specs.Reads.{ReadsOnly, SomeRose, written_names}
-use Rattle.canpack_top.specs.Text.{placed_cert}
 use Rattle.canpack_top.specs.Verdict.{Finds, IsShown}
-use Rattle.canpack_top.specs.Write.{PartWritten, Written}
-use Rattle.canpack_top.proofs.Planned.{is_planned, is_part_planned}
+use Rattle.canpack_top.proofs.Planned.{answer_is, is_part_planned, is_plan_answer, is_planned}
 
 -- a fact of what there is gives another
-pub ok_and : {X E : Type 0} (r : Result X E) (P Q : X → Type 0) → ((x : X) → P x → Q x) → IsOkAnd r P → IsOkAnd r Q
+pub ok_and : {X E : Type 0} (r : Result X E) (P Q : X → Type 0) → ((x : X) → P x → Q x) → IsOkAnd r P
+    → IsOkAnd r Q
 ok_and (Ok x) P Q more is = more x is
 ok_and (Err e) P Q more is = absurd is
 
 -- where texts stand there is no line of a refusal
-no_refusal : {X : Type 0} (r : Result X Refusal) (P : X → Type 0) → IsOkAnd r P → option_map refused_line (result_err r) ≡ None
+no_refusal : {X : Type 0} (r : Result X Refusal) (P : X → Type 0) → IsOkAnd r P → option_map refused_line
+    (result_err r) ≡ None
 no_refusal (Ok x) P is = refl
 no_refusal (Err why) P is = absurd is
 
 -- the line of the first refusal
-pub refusal : {X : Type 0} (r : Result X Refusal) (why : Refusal) → r ≡ Err why → option_map refused_line (result_err r) ≡ Some (refused_line why)
+pub refusal : {X : Type 0} (r : Result X Refusal) (why : Refusal) → r ≡ Err why → option_map refused_line
+    (result_err r) ≡ Some (refused_line why)
 refusal {X = X} r why is = ap (λ (t : Result X Refusal). option_map refused_line (result_err t)) is
 
 -- what was found isn't a refusal
@@ -60,13 +62,15 @@ at_least_since : (before mid now : ℕ) → before ≤ mid → Rose mid now → 
 at_least_since before mid now later rose = omega arith
 
 -- the same of the counts of names
-rose_since : (names : List (List ℕ)) (before mid now : List ℕ → ℕ) → ((name : List ℕ) → before name ≤ mid name)
+rose_since : (names : List (List ℕ)) (before mid now : List ℕ → ℕ)
+    → ((name : List ℕ) → before name ≤ mid name)
     → SomeRose names mid now → SomeRose names before now
 rose_since [] before mid now later rose = absurd rose
 rose_since (name ∷ names) before mid now later (inl rose) = inl (at_least_since _ _ _ (later name) rose)
 rose_since (name ∷ names) before mid now later (inr rose) = inr (rose_since names before mid now later rose)
 
-module _ {F : Type 0} {files : F → Files} {read_faults write_faults given_bytes : F → List ℕ → ℕ} {old new : F} where
+module _ {F : Type 0} {files : F → Files} {read_faults write_faults given_bytes : F → List ℕ
+    → ℕ} {old new : F} where
   -- a command that only read runs
   unwritten : (meaning : Meaning) (result : Result GivenAnswer Halt)
       → IfOk result (λ answer. Ends meaning (files old) (files new) (seen answer))
@@ -86,13 +90,16 @@ module _ {F : Type 0} {files : F → Files} {read_faults write_faults given_byte
 
   -- a command whose reading stopped runs
   pub stopped : (meaning : Meaning) (why : Stop) (result : Result GivenAnswer Halt) → Stops why result
-      → ((what : Refusal) → why ≡ stop.Refused what → IsSome (files old) → meaning.first_refusal (files old) ≡ Some (refused_line what))
+      → ((what : Refusal) → why ≡ stop.Refused what → IsSome (files old) → meaning.first_refusal
+          (files old) ≡ Some (refused_line what))
       → (why ≡ stop.ReadFault → SomeRose meaning.reads (read_faults old) (read_faults new))
       → ReadsOnly files read_faults write_faults given_bytes old new
       → Runs meaning files read_faults write_faults given_bytes old new result
   stopped meaning (stop.Refused what) (Ok answer) is first rose only =
-      unwritten meaning (Ok answer) (inr (record { why = what; is = is; first = first what refl; same = only.same })) (λ h. cc) (λ h. cc) only
-  stopped meaning (stop.Refused what) (Err halt.Memory) is first rose only = unwritten meaning (Err halt.Memory) tt (λ h. cc) (λ h. cc) only
+      unwritten meaning (Ok answer) (inr (record { why = what; is = is; first = first what refl; same =
+          only.same })) (λ h. cc) (λ h. cc) only
+  stopped meaning (stop.Refused what) (Err halt.Memory) is first rose only = unwritten meaning
+      (Err halt.Memory) tt (λ h. cc) (λ h. cc) only
   stopped meaning (stop.Refused what) (Err halt.ReadFault) is first rose only = absurd is
   stopped meaning (stop.Refused what) (Err halt.WriteFault) is first rose only = absurd is
   stopped meaning stop.ReadFault result is first rose only =
@@ -104,19 +111,24 @@ module _ {F : Type 0} {files : F → Files} {read_faults write_faults given_byte
 
   -- `check` ran where something was found
   pub judged : (names : Names) (judgement : Judgement) (result : Result GivenAnswer Halt)
-      → IfOk result (λ answer. seen answer ≡ check_answer judgement.hyper judgement.found) → OnErr result (result ≡ Err halt.Memory)
-      → (IsSome (files old) → IsOkAnd (texts_at names (files old)) (λ judged. Finds judgement.found judged × (judgement.hyper ≡ judged.problem.hyper)))
+      → IfOk result (λ answer. seen answer ≡ check_answer judgement.hyper judgement.found) → OnErr result
+          (result ≡ Err halt.Memory)
+      → (IsSome (files old) → IsOkAnd (texts_at names (files old))
+          (λ judged. Finds judgement.found judged × (judgement.hyper ≡ judged.problem.hyper)))
       → (IsSome (files old) → IsShown judgement.found → HasAll names (files old))
       → ReadsOnly files read_faults write_faults given_bytes old new
       → Runs (check_meaning names) files read_faults write_faults given_bytes old new result
-  judged names judgement (Ok answer) is no_err finds holds only = unwritten (check_meaning names) (Ok answer) (inl (record {
+  judged names judgement (Ok answer) is no_err finds holds only = unwritten (check_meaning names)
+      (Ok answer) (inl (record {
     has = (judgement.hyper, judgement.found, is);
     not_refused = λ h. not_refused judgement.hyper judgement.found (sym (ap (λ a. a.status) is) ∙ h);
     stand = λ told. no_refusal (texts_at names (files old)) _ (finds told);
     answers = λ told. ok_and (texts_at names (files old)) _ (IsAnswerOf (seen answer))
-        (λ judged both. (judgement.found, both.0, is ∙ ap (λ h. check_answer h judgement.found) both.1)) (finds told);
+        (λ judged both. (judgement.found, both.0, is ∙ ap (λ h. check_answer h judgement.found) both.1))
+            (finds told);
     leaves = λ told. only.same;
-    shows = λ told done. holds told (is_shown judgement.hyper judgement.found (sym (ap (λ a. a.status) is) ∙ done));
+    shows = λ told done. holds told (is_shown judgement.hyper judgement.found
+        (sym (ap (λ a. a.status) is) ∙ done));
     kept = λ h. only.same;
   })) (λ h. cc) (λ h. cc) only
   judged names judgement (Err why) is no_err finds holds only = unwritten (check_meaning names) (Err why) tt
@@ -126,24 +138,31 @@ module _ {F : Type 0} {files : F → Files} {read_faults write_faults given_byte
   pub planned : {mid : F} (names : Names) (problem : Parts) (result : Result GivenAnswer Halt)
       → (IsSome (files old) → problem_at names (files old) ≡ Ok problem)
       → ReadsOnly files read_faults write_faults given_bytes old mid
-      → IfOk result (λ answer. seen answer ≡ plan_answer)
-      → OnOk result (Written names.matrix names.cert (planned_text problem) placed_cert (files mid) (files new))
-      → OnOk result (IsSome (files mid) → problem_at names (files mid) ≡ Ok problem → Accepts names (files new))
-      → (IsErrOf result halt.WriteFault → PartWritten names.matrix names.cert (planned_text problem) placed_cert (files mid) (files new))
-      → (IsErrOf result halt.WriteFault → SomeRose (written_names names) (write_faults mid) (write_faults new))
+      → IfOk result (λ answer. answer.status ≡ status.Done)
+      → IfOk result (λ answer. PlanWritten names problem answer.line.items (files mid) (files new))
+      → IfOk result (λ answer. IsSome (files mid) → problem_at names (files mid) ≡ Ok problem
+          → AcceptsWith names (files new) answer.line.items)
+      → (IsErrOf result halt.WriteFault → PlanPartWritten names problem (files mid) (files new))
+      → (IsErrOf result halt.WriteFault → SomeRose (written_names names) (write_faults mid)
+          (write_faults new))
       → (IsErrOf result halt.ReadFault → ⊥)
       → (IsErr result → IsErrOf result halt.WriteFault ⊎ (files new ≡ files mid))
       → Later read_faults write_faults given_bytes mid new
       → Runs (plan_meaning names) files read_faults write_faults given_bytes old new result
-  planned {mid} names problem (Ok answer) stands only is written accepted part rose none same later = record {
+  planned {mid} names problem (Ok answer) stands only done written accepted part rose none same later =
+      record {
     ends = inl (record {
-      has = is;
-      not_refused = λ h. cc;
+      has = (problem.hyper, verdict_alone problem written.plan, answer_is (seen answer) problem names
+          (files mid) (files new) done written);
+      not_refused = λ h. let e : status.Done ≡ status.Refused = sym done ∙ h in cc;
       stand = λ told. ap (λ (r : Result Parts Refusal). option_map refused_line (result_err r)) (stands told);
-      answers = λ told. is;
-      leaves = λ told. is_planned names (files old) (files mid) (files new) problem (planned_text problem) (stands told) only.same refl written;
-      shows = λ told. accepted (subst IsSome (sym only.same) told) (ap (problem_at names) only.same ∙ stands told);
-      kept = λ h. cc;
+      answers = λ told. is_plan_answer names (files old) (files mid) (files new) problem (seen answer)
+          (stands told) done written;
+      leaves = λ told. is_planned names (files old) (files mid) (files new) problem answer.line.items
+          (stands told) only.same written;
+      shows = λ told. accepted (subst IsSome (sym only.same) told)
+          (ap (problem_at names) only.same ∙ stands told);
+      kept = λ h. let e : status.Done ≡ status.Rejected = sym done ∙ h in cc;
     });
     read_fault = λ h. cc;
     write_fault = λ h. cc;
@@ -152,13 +171,14 @@ module _ {F : Type 0} {files : F → Files} {read_faults write_faults given_byte
     idle = λ h. cc;
     later = later_trans only.later later;
   }
-  planned {mid} names problem (Err why) stands only is written accepted part rose none same later = record {
+  planned {mid} names problem (Err why) stands only done written accepted part rose none same later = record {
     ends = tt;
     read_fault = λ h. absurd (none h);
-    write_fault = λ h. rose_since (written_names names) (write_faults old) (write_faults mid) (write_faults new) only.later.write (rose h);
+    write_fault = λ h. rose_since (written_names names) (write_faults old) (write_faults mid)
+        (write_faults new) only.later.write (rose h);
     part = λ h told. (
       ap (λ (r : Result Parts Refusal). option_map refused_line (result_err r)) (stands told),
-      is_part_planned names (files old) (files mid) (files new) problem (planned_text problem) (stands told) only.same refl (part h),
+      is_part_planned names (files old) (files mid) (files new) problem (stands told) only.same (part h),
     );
     same = λ h. elim (same h) [ inl fault ↦ inl fault | inr is ↦ inr (is ∙ only.same) ];
     idle = λ h. cc;
@@ -166,12 +186,17 @@ module _ {F : Type 0} {files : F → Files} {read_faults write_faults given_byte
   }
 
   -- a command that ran with equal names
-  pub renamed : (meaning : Names → Meaning) (names same : Names) (result : Result GivenAnswer Halt) → names ≡ same
-      → Runs (meaning names) files read_faults write_faults given_bytes old new result → Runs (meaning same) files read_faults write_faults given_bytes old new result
-  renamed meaning names same result is runs = subst (λ n. Runs (meaning n) files read_faults write_faults given_bytes old new result) is runs
+  pub renamed : (meaning : Names → Meaning) (names same : Names) (result : Result GivenAnswer Halt)
+      → names ≡ same
+      → Runs (meaning names) files read_faults write_faults given_bytes old new result → Runs
+          (meaning same) files read_faults write_faults given_bytes old new result
+  renamed meaning names same result is runs = subst (λ n. Runs
+      (meaning n) files read_faults write_faults given_bytes old new result) is runs
 
   -- the command that ran
-  pub ran : (words : List (String Global)) (command given : Command) (result : Result GivenAnswer Halt) → command ≡ given
+  pub ran : (words : List (String Global)) (command given : Command) (result : Result GivenAnswer Halt)
+      → command ≡ given
       → Runs (meaning_of given words) files read_faults write_faults given_bytes old new result
       → Runs (meaning_of command words) files read_faults write_faults given_bytes old new result
-  ran words command given result is runs = subst (λ c. Runs (meaning_of c words) files read_faults write_faults given_bytes old new result) (sym is) runs
+  ran words command given result is runs = subst (λ c. Runs
+      (meaning_of c words) files read_faults write_faults given_bytes old new result) (sym is) runs

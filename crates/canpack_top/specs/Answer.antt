@@ -30,8 +30,8 @@ abbrev pub SaysPart : List (String Global) → Files → Files → Option (List 
 SaysPart words before now said_before said_now =
     (line : List ℕ) × IsDue words before now line × SaidPart line said_before said_now
 
--- the write faults of a file that the command writes rose, and of told files no text is refused, and they are as it
--- leaves them at a write fault
+-- the write faults of a file that the command writes rose, and of told files no text is refused, and they are
+-- as it leaves them at a write fault
 abbrev pub WritesPart : Files → Files → (List ℕ → ℕ) → (List ℕ → ℕ) → Meaning → Type 0
 WritesPart before now faults_before faults_now meaning =
     SomeRose meaning.writes faults_before faults_now
@@ -56,3 +56,7 @@ LeavesFiles status = (status ≡ 1) ⊎ (status ≡ 2) ⊎ (status ≡ 4) ⊎ (s
 -- the statuses at which nothing was said: a read fault, a write fault, want of memory
 abbrev pub SaysNothing : ℕ → Type 0
 SaysNothing status = (status ≡ 2) ⊎ (status ≡ 3) ⊎ (status ≡ 6)
+
+-- a line of which this holds was said
+abbrev pub SaysLine : Option (List ℕ) → Option (List ℕ) → (List ℕ → Type 0) → Type 0
+SaysLine before now P = (line : List ℕ) × (now ≡ and_said before line) × P line

@@ -1,5 +1,5 @@
 -- What `check` means.
-use Rattle.std.specs.Prelude.{◌≡◌, ⊤, ℕ, [], Result, Ok, Err, IsOkAnd, option_map}
+use Rattle.std.specs.Prelude.{◌≡◌, ⊤, ℕ, List, [], Result, Ok, Err, IsOkAnd, option_map}
 use Rattle.std.specs.Result.{result_err}
 use Rattle.csv_table.specs.Columns.{◌>>=◌}
 use Rattle.pack_base.specs.Outside.{Files}
@@ -17,7 +17,8 @@ use Rattle.canpack_top.specs.Files.{cert_at, matrix_at, problem_at}
 use Rattle.canpack_top.specs.Line.{refused_line}
 use Rattle.canpack_top.specs.Meaning.{Answer, Meaning}
 use Rattle.canpack_top.specs.Reads.{check_names}
-use Rattle.canpack_top.specs.Verdict.{Finds, IsAccepted, IsRejected, found_line}
+use Rattle.canpack_top.specs.Verdict.{Finds, IsAccepted, IsRejected, found_line, verdict_line}
+use Rattle.bandwidth_bound.specs.declared.verdict.Verdict.{Verdict}
 use Rattle.bandwidth_bound.specs.Rule.{Judged}
 use Rattle.bandwidth_bound.specs.Bus.{NeverLate}
 use Rattle.bandwidth_bound.specs.Follows.{HasMatrix, HasTiming, Holds}
@@ -35,6 +36,12 @@ texts_at names files = do
 abbrev pub Accepts : Names → Files → Type 0
 Accepts names files = IsOkAnd (texts_at names files) IsAccepted
 
+-- the texts stand, and the acceptance rule holds with a verdict whose line this is
+abbrev pub AcceptsWith : Names → Files → List ℕ → Type 0
+AcceptsWith names files line = IsOkAnd (texts_at names files)
+    (λ judged. (shown : Verdict) × Finds (found.Shown shown) judged
+        × (line ≡ verdict_line judged.problem.hyper shown))
+
 -- the texts stand, and some part of the acceptance rule is the first that doesn't hold
 abbrev pub Rejects : Names → Files → Type 0
 Rejects names files = IsOkAnd (texts_at names files) IsRejected
@@ -49,7 +56,8 @@ abbrev pub HasPassing : Names → Files → Type 0
 HasPassing names files = IsOkAnd (texts_at names files)
     (λ judged. HasTiming judged.cert.kind judged.matrix → AllPass judged.problem judged.matrix)
 
--- the texts stand, and where the kind speaks of times, no release is late in any run that stands over the matrix's frames
+-- the texts stand, and where the kind speaks of times, no release is late in any run that stands over the
+-- matrix's frames
 abbrev pub HasNoneLate : Names → Files → Type 0
 HasNoneLate names files = IsOkAnd (texts_at names files)
     (λ judged. HasTiming judged.cert.kind judged.matrix → NeverLate judged.problem judged.matrix)
@@ -72,8 +80,8 @@ abbrev pub IsAnswerOf : Answer → Judged → Type 0
 IsAnswerOf answer judged =
     (what : Found) × Finds what judged × (answer ≡ check_answer judged.problem.hyper what)
 
--- `check` reads four files and writes none; it answers 0 where the acceptance rule holds, with the line of the
--- verdict, and 5 where it doesn't, with the line of the first part that fails
+-- `check` reads four files and writes none; it answers 0 where the acceptance rule holds, with the line of
+-- the verdict, and 5 where it doesn't, with the line of the first part that fails
 abbrev pub check_meaning : Names → Meaning
 check_meaning names = record {
   reads = check_names names;

@@ -1,5 +1,5 @@
 -- What the four texts say, or why one is refused.
-use Rattle.std.specs.Prelude.{ℕ, List, [], ◌∷◌, ◌++◌, length, codes, nat_lt, Result, Ok, Err, if◌then◌else◌}
+use Rattle.std.specs.Prelude.{ℕ, List, length, nat_lt, Result, Ok, Err, if◌then◌else◌}
 use Rattle.pack_model.specs.declared.network.Network.{Network}
 use Rattle.pack_model.specs.declared.signal.Signal.{Signal}
 use Rattle.pack_model.specs.declared.problem.ProblemFault.{ProblemFault}
@@ -88,10 +88,6 @@ signals_in text = refused_as signals_refused (signals_of text)
 -- the rows of a text
 unfoldable pub matrix_in : List ℕ → Result (List MatrixRow) Refusal
 matrix_in text = refused_as matrix_refused (matrix_of_text text)
-
--- the text of the certificate of kind `placed`
-abbrev pub placed_cert : List ℕ
-placed_cert = codes "canpack certificate 1" ++ 10 ∷ codes "kind placed" ++ 10 ∷ codes "end" ++ 10 ∷ []
 
 -- the certificate of a text
 unfoldable pub cert_in : List ℕ → Result CertParts Refusal

@@ -10,6 +10,7 @@ mod ending;
 mod files;
 mod line;
 mod plan;
+mod planning;
 mod problem;
 mod reading;
 mod refusal;

@@ -1,7 +1,7 @@
 //! The lines that the program says.
 ghost use Rattle.std.specs.Prelude.{◌≡◌, IfOk, string_bytes};
 ghost use Rattle.canpack_top.specs.declared.refusal.Role.TheVariants as role;
-ghost use Rattle.canpack_top.specs.Line.{column_name, placed_line, refused_line, role_name, usage_line};
+ghost use Rattle.canpack_top.specs.Line.{column_name, refused_line, role_name, usage_line};
 
 use crate::refusal::{Refusal, Role};
 use pack_model::Memory;
@@ -96,13 +96,6 @@ pub fn refused_line(alloc: Global, refusal: Refusal) -> Result<Vec<u8>, Memory>
     ensures { IfOk result (λ line. line.items ≡ refused_line refusal) }
 {
     Ok(refused_text(alloc, refusal)?.into_bytes())
-}
-
-/// The line of a matrix that is placed.
-pub fn placed_line(alloc: Global) -> Result<Vec<u8>, Memory>
-    ensures { IfOk result (λ line. line.items ≡ placed_line) }
-{
-    Ok(Vec::from_slice(alloc, b"placed\n")?)
 }
 
 /// How the program is used.

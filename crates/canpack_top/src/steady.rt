@@ -1,5 +1,5 @@
 //! The top call over an outside that never fails.
-ghost use Rattle.std.specs.Prelude.{◌≡◌, ◌≢◌, ◌⊎◌, IsNone, IsOk};
+ghost use Rattle.std.specs.Prelude.{◌≡◌, ◌≢◌, ◌⊎◌, ℕ, List, IsNone, IsOk};
 ghost use Rattle.pack_base.specs.SteadyFolder.{files_of};
 ghost use Rattle.canpack_top.specs.Answer.{IsRefused};
 ghost use Rattle.canpack_top.specs.Check.{Accepts, HasNoneLate, HasOnePlace, HasPassing, texts_at};
@@ -40,7 +40,7 @@ pub fn canpack_steady<R: Threads, G: Gate + Sync>(
 
     // `plan` says that it is done only where both files are written.
     ensures planned { result ≡ 0 → IsPlan words.now
-        → IsPlanned (names_in words.now) (files_of folder.old) (files_of folder.new) }
+        → (line : List ℕ) × IsPlanned (names_in words.now) (files_of folder.old) (files_of folder.new) line }
     ensures plans { IsPlan words.now → IsOk (problem_at (names_in words.now) (files_of folder.old))
         → (result ≡ 0) ⊎ (result ≡ 3) ⊎ (result ≡ 6) }
 {

@@ -26,9 +26,6 @@ use matrix_text::{Matrix, MatrixFault, read_matrix};
 use pack_model::{Network, Signal};
 use std::alloc::Global;
 
-/// The text of the certificate of kind `placed`.
-pub const PLACED_CERT: &[u8] = b"canpack certificate 1\nkind placed\nend\n";
-
 /// The refusal of NETWORK, or want of memory.
 fn network_stop(fault: NetworkFault) -> Stop
     ensures { result ≡ stop_of (option_map network_refused (network_refusal fault)) }

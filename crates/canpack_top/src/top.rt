@@ -8,11 +8,20 @@ ghost use Rattle.canpack_top.specs.Answer.{
   IsExcused,
   IsRefused,
   LeavesFiles,
+  SaysLine,
   SaysNothing,
   SaysPart,
   WritesPart,
 };
-ghost use Rattle.canpack_top.specs.Check.{Accepts, HasNoneLate, HasOnePlace, HasPassing, Rejects, texts_at};
+ghost use Rattle.canpack_top.specs.Check.{
+  Accepts,
+  AcceptsWith,
+  HasNoneLate,
+  HasOnePlace,
+  HasPassing,
+  Rejects,
+  texts_at,
+};
 ghost use Rattle.canpack_top.specs.Command.{command_of, names_in};
 ghost use Rattle.canpack_top.specs.Commands.{IsCheck, IsPlan, OfCommand};
 ghost use Rattle.canpack_top.specs.Files.{problem_at};
@@ -139,11 +148,15 @@ pub fn canpack<R: Threads, F: Folder, O: Sink, G: Gate + Sync>(
         → ¬ Accepts (names_in words.now) (F.files folder.old) → (result ≡ 5) ⊎ IsExcused result }
     ensures check { IsCheck words.now → F.files folder.new ≡ F.files folder.old }
 
-    // `plan` is done exactly where there is a problem, and `check` accepts what it wrote.
+    // `plan` is done exactly where there is a problem; it wrote the plan for it and said its line, and `check`
+    // accepts what it wrote, with that line.
     ensures planned { result ≡ 0 → IsSome (F.files folder.old) → IsPlan words.now
-        → IsPlanned (names_in words.now) (F.files folder.old) (F.files folder.new) }
+        → SaysLine (O.said out.old) (O.said out.new)
+        (IsPlanned (names_in words.now) (F.files folder.old) (F.files folder.new)) }
     ensures accepted_after { result ≡ 0 → IsSome (F.files folder.old) → IsPlan words.now
         → Accepts (names_in words.now) (F.files folder.new) }
+    ensures accepted_line { result ≡ 0 → IsSome (F.files folder.old) → IsPlan words.now
+        → SaysLine (O.said out.old) (O.said out.new) (AcceptsWith (names_in words.now) (F.files folder.new)) }
     ensures plans { IsSome (F.files folder.old) → IsPlan words.now
         → IsOk (problem_at (names_in words.now) (F.files folder.old))
         → (result ≡ 0) ⊎ IsExcused result }

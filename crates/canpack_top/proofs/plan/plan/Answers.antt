@@ -9,7 +9,7 @@ use Rattle.canpack_top.proofs.plan.plan.Goals as goal
 
 pub returns-in-Ok : goal.returns-in-Ok
 returns-in-Ok g c = planned (names_of c.args.names) c.in-Ok.problem _ c.in-Ok.ensures.exact c.read_problem.ensures.only
-    c.write_plan.ensures.answer c.write_plan.ensures.written c.write_plan.ensures.accepted c.write_plan.ensures.part c.write_plan.ensures.write_fault
+    c.write_plan.ensures.done c.write_plan.ensures.written c.write_plan.ensures.accepted c.write_plan.ensures.part c.write_plan.ensures.write_fault
     c.write_plan.ensures.writes c.write_plan.ensures.same c.write_plan.ensures.later
 
 pub write_plan-requires : goal.write_plan-requires

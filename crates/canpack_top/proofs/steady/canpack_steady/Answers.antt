@@ -11,3 +11,8 @@ returns-clause-refuses g c = λ refused.
     refused_steady c.args.words.now (files_of c.args.folder.now) (files_of c.canpack.new.folder) (write_faults_of c.args.folder.now)
     (write_faults_of c.canpack.new.folder) c.canpack.result refl refused (c.canpack.ensures.refuses refl refused) (λ two. no_read_fault c.args.words.now (c.canpack.ensures.read_fault two))
     (λ seven. let rose = c.canpack.ensures.say_fault seven in omega (arith, rose)) c.canpack.ensures.write_fault
+
+pub returns-clause-planned : goal.returns-clause-planned
+returns-clause-planned g c = λ zero plan.
+    let said = c.canpack.ensures.planned zero refl plan in
+    (said.0, said.2)

@@ -10,6 +10,7 @@ use Rattle.canpack_top.proofs.CommandLaws.{
   check_rejected,
   check_rejects,
   plan_accepted,
+  plan_accepted_line,
   plan_done,
   plan_plans,
   refused_text,
@@ -100,6 +101,13 @@ returns-clause-accepted_after g c =
     (g.O.Sink.said c.args.out.now) (g.O.Sink.said c.status_of.new.out) c.status_of.result =
     record { statuses = c.status_of.ensures.statuses; usage = λ one. (c.status_of.ensures.usage one).0; answered = c.status_of.ensures.answered } in
     plan_accepted called
+
+pub returns-clause-accepted_line : goal.returns-clause-accepted_line
+returns-clause-accepted_line g c =
+    let called : Called c.args.words.now (g.F.Folder.files c.args.folder.now) (g.F.Folder.files c.status_of.new.folder)
+    (g.O.Sink.said c.args.out.now) (g.O.Sink.said c.status_of.new.out) c.status_of.result =
+    record { statuses = c.status_of.ensures.statuses; usage = λ one. (c.status_of.ensures.usage one).0; answered = c.status_of.ensures.answered } in
+    plan_accepted_line called
 
 pub returns-clause-plans : goal.returns-clause-plans
 returns-clause-plans g c =
