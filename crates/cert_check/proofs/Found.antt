@@ -49,7 +49,8 @@ module _ (problem : Parts) (rows : List MatrixRow) (cert : CertParts) (stands : 
 
   -- of one with a placed matrix
   pub holds_placed : IsSorted problem.signals problem.items → OnePlace problem rows
-      → IsLegal problem.items (grouping_of problem rows) → IsOrder (grouping_of problem rows) (order_of problem rows)
+      → IsLegal problem.items (grouping_of problem rows)
+      → IsOrder (grouping_of problem rows) (order_of problem rows)
       → (answer : Result Verdict CheckFault) → IsFound problem rows cert answer
       → OnOk answer (Holds (judged_of problem rows cert))
   holds_placed sorted one_place legal named (Ok shown) found =
@@ -72,5 +73,6 @@ module _ (problem : Parts) (rows : List MatrixRow) (cert : CertParts) (stands : 
 pub load_fits : (problem : Parts) → IsProblem problem → (labels : List ℕ) → IsLegal problem.items labels
     → 8 * load_of problem problem.items labels < 2 ^ 128
 load_fits problem stands labels legal =
-    loads_fit problem stands problem.items (all_items problem) labels (legal-partial problem.items labels legal)
+    loads_fit problem stands problem.items (all_items problem) labels
+    (legal-partial problem.items labels legal)
     (omega (arith, legal.grouping.each, (tests problem stands).few_items))

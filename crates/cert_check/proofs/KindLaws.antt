@@ -1,4 +1,5 @@
--- The parts of the acceptance rule by the kind of a certificate, and what is found of a certificate by its kind.
+-- The parts of the acceptance rule by the kind of a certificate, and what is found of a certificate by its
+-- kind.
 use Rattle.std.proofs.Common.{◌≡◌, ◌<◌, ℕ, true, false, List, [], ◌∷◌, length, Option, None, Some, true≢false, Ok, Err, Result, refl, sym, ap, subst, arith, All, count_by}
 use Rattle.std.proofs.lemmas.List.Elements.{All-head}
 use Rattle.std.specs.Prelude.{unwrap_or}
@@ -57,7 +58,8 @@ timing_to KindBest problem rows lines is other holds = holds
 timing_to KindNoSolution problem rows lines is other holds = absurd (true≢false (sym is))
 
 -- the timing part of a kind that speaks of times
-pub timing_of : (kind : Kind) (problem : Parts) (rows : List MatrixRow) (lines : List FrameLine) → HasTiming kind rows
+pub timing_of : (kind : Kind) (problem : Parts) (rows : List MatrixRow) (lines : List FrameLine)
+    → HasTiming kind rows
     → TimingOfKind kind problem rows lines → TimingStands problem rows lines
 timing_of KindPlaced problem rows lines has holds = absurd has
 timing_of KindTimed problem rows lines has holds = holds
@@ -67,7 +69,8 @@ timing_of KindBest problem rows lines has holds = holds
 timing_of KindNoSolution problem rows lines has holds = absurd has
 
 -- a kind whose matrix is to have no rows
-pub matrix_without : (kind : Kind) (problem : Parts) (rows : List MatrixRow) → is_to_be_placed kind rows ≡ false
+pub matrix_without : (kind : Kind) (problem : Parts) (rows : List MatrixRow)
+    → is_to_be_placed kind rows ≡ false
     → rows ≡ [] → MatrixOfKind kind problem rows
 matrix_without KindPlaced problem rows is none = absurd (true≢false is)
 matrix_without KindTimed problem rows is none = absurd (true≢false is)
@@ -104,7 +107,8 @@ lines_without KindBest problem rows lines is holds = absurd (true≢false is)
 lines_without KindNoSolution problem rows lines is holds = holds
 
 -- neither matrix nor times are spoken of
-pub no_matrix : (kind : Kind) (rows : List MatrixRow) → is_to_be_placed kind rows ≡ false → ¬ HasMatrix kind rows
+pub no_matrix : (kind : Kind) (rows : List MatrixRow) → is_to_be_placed kind rows ≡ false
+    → ¬ HasMatrix kind rows
 no_matrix KindPlaced rows is has = true≢false is
 no_matrix KindTimed rows is has = true≢false is
 no_matrix KindBetween [] is has = has
@@ -112,7 +116,8 @@ no_matrix KindBetween (row ∷ rows) is has = true≢false is
 no_matrix KindBest rows is has = true≢false is
 no_matrix KindNoSolution rows is has = has
 
-pub no_timing : (kind : Kind) (rows : List MatrixRow) → is_to_be_placed kind rows ≡ false → ¬ HasTiming kind rows
+pub no_timing : (kind : Kind) (rows : List MatrixRow) → is_to_be_placed kind rows ≡ false
+    → ¬ HasTiming kind rows
 no_timing KindPlaced rows is has = has
 no_timing KindTimed rows is has = true≢false is
 no_timing KindBetween [] is has = has
@@ -121,7 +126,8 @@ no_timing KindBest rows is has = true≢false is
 no_timing KindNoSolution rows is has = has
 
 -- nor are times of the kind `placed`
-pub placed_no_timing : (kind : Kind) (rows : List MatrixRow) → is_kind_placed kind ≡ true → ¬ HasTiming kind rows
+pub placed_no_timing : (kind : Kind) (rows : List MatrixRow) → is_kind_placed kind ≡ true
+    → ¬ HasTiming kind rows
 placed_no_timing KindPlaced rows is has = has
 placed_no_timing KindTimed rows is has = true≢false (sym is)
 placed_no_timing KindBetween rows is has = true≢false (sym is)
@@ -161,14 +167,17 @@ verdict_is KindNoSolution problem rows cert best is same load = is
 module _ (problem : Parts) (rows : List MatrixRow) (cert : CertParts) (best : Option ℕ)
     (matrix : MatrixOfKind cert.kind problem rows) (timing : TimingOfKind cert.kind problem rows cert.frames)
     (same : best_of problem rows ≡ best)
-    (load : HasTiming cert.kind rows → unwrap_or best 0 ≡ load_of problem problem.items (grouping_of problem rows)) where
+    (load : HasTiming cert.kind rows
+    → unwrap_or best 0 ≡ load_of problem problem.items (grouping_of problem rows)) where
   pub found_by_trees : (answer : Result Verdict CheckFault) → IsAnswer problem best cert answer
       → IsFound problem rows cert answer
   found_by_trees (Ok shown) is = record {
     rule = record {
       matrix = matrix;
       timing = timing;
-      tree = tree_of cert.kind problem rows cert (subst (λ b. TreeOfBest cert.kind problem b cert) (sym same) is.0);
+      tree =
+          tree_of cert.kind problem rows cert
+          (subst (λ b. TreeOfBest cert.kind problem b cert) (sym same) is.0);
     };
     of_kind = subst (λ v. IsOfKind v (judged_of problem rows cert)) (sym is.1)
         (verdict_is cert.kind problem rows cert best refl same load);
@@ -184,10 +193,12 @@ module _ (problem : Parts) (rows : List MatrixRow) (cert : CertParts) (best : Op
   found_by_trees (Err fault.Memory) is = tt
 
 -- a placed matrix has rows
-pub has_rows : (problem : Parts) (rows : List MatrixRow) → IsProblem problem → Placed problem rows → ¬ (rows ≡ [])
+pub has_rows : (problem : Parts) (rows : List MatrixRow) → IsProblem problem → Placed problem rows
+    → ¬ (rows ≡ [])
 has_rows problem [] stands placed none = by problem.signals placed.one_row.each (tests problem stands).some
   where
-    by : (signals : List Signal) → All (λ (signal : Signal). count_by (is_named signal.name) [] ≡ 1) signals → 0 < length signals → ⊥
+    by : (signals : List Signal) → All (λ (signal : Signal). count_by (is_named signal.name) [] ≡ 1) signals
+        → 0 < length signals → ⊥
     by [] each some = absurd (omega arith)
     by (signal ∷ signals) each some =
         let one : count_by (is_named signal.name) [] ≡ 1 =
@@ -202,7 +213,8 @@ best_is problem [] load some is = absurd (some refl)
 best_is problem (row ∷ rows) load some is = ap Some (sym is)
 
 -- a certificate whose matrix is to have no rows
-module _ (problem : Parts) (rows : List MatrixRow) (cert : CertParts) (is : is_to_be_placed cert.kind rows ≡ false) where
+module _ (problem : Parts) (rows : List MatrixRow) (cert : CertParts)
+    (is : is_to_be_placed cert.kind rows ≡ false) where
   pub found_without : FailsWithoutRows rows cert.frames None → (answer : Result Verdict CheckFault)
       → IsAnswer problem None cert answer → IsFound problem rows cert answer
   found_without none answer judged =
@@ -222,15 +234,18 @@ module _ (problem : Parts) (rows : List MatrixRow) (cert : CertParts) (is : is_t
   fault_without fault.Memory fails = absurd fails
 
 -- a certificate with a placed matrix, other than of the kind `placed`
-module _ (problem : Parts) (rows : List MatrixRow) (cert : CertParts) (is : is_to_be_placed cert.kind rows ≡ true)
+module _ (problem : Parts) (rows : List MatrixRow) (cert : CertParts)
+    (is : is_to_be_placed cert.kind rows ≡ true)
     (other : is_kind_placed cert.kind ≡ false) (placed : Placed problem rows) where
   -- the lines show that each frame passes
   pub found_with_load : IsProblem problem → (load : ℕ)
       → IsTimed problem (grouping_of problem rows) (order_of problem rows) cert.frames (Ok load)
-      → (answer : Result Verdict CheckFault) → IsAnswer problem (Some load) cert answer → IsFound problem rows cert answer
+      → (answer : Result Verdict CheckFault) → IsAnswer problem (Some load) cert answer
+      → IsFound problem rows cert answer
   found_with_load stands load timed answer judged =
       found_by_trees problem rows cert (Some load) (matrix_from cert.kind problem rows is placed)
-      (timing_from cert.kind problem rows cert.frames is other (record { count = timed.0.count; each = timed.0.each }))
+      (timing_from cert.kind problem rows cert.frames is other
+      (record { count = timed.0.count; each = timed.0.each }))
       (best_is problem rows load (has_rows problem rows stands placed) timed.1) (λ has. timed.1) answer judged
 
   -- or they do not

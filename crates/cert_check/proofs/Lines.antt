@@ -11,7 +11,10 @@ module _ (frames : List Timed) (order : List ℕ) (bit : ℕ) (lines : List Fram
   abbrev pub Shows : ℕ → FrameLine → Type 0
   Shows place d = IsShown frames order place bit (get_or lines place d).busy (get_or lines place d).queue
 
-  pub one_more : (place : ℕ) (line : FrameLine) (queue : List ℕ) → ((k : ℕ) (d : FrameLine) → k < place → Shows k d) → place < length lines → line ≡ get_or lines place line → queue ≡ line.queue → IsShown frames order place bit line.busy queue → (k : ℕ) (d : FrameLine) → k < place + 1 → Shows k d
+  pub one_more : (place : ℕ) (line : FrameLine) (queue : List ℕ)
+      → ((k : ℕ) (d : FrameLine) → k < place → Shows k d) → place < length lines
+      → line ≡ get_or lines place line → queue ≡ line.queue → IsShown frames order place bit line.busy queue
+      → (k : ℕ) (d : FrameLine) → k < place + 1 → Shows k d
   one_more place line queue before within at same shown k d lt = by (cases_lt k place)
     where
       by : (k < place) ⊎ (place ≤ k) → Shows k d
@@ -19,5 +22,6 @@ module _ (frames : List Timed) (order : List ℕ) (bit : ℕ) (lines : List Fram
       by (inr here) =
           let last : place ≡ k = omega arith in
           subst (λ n. Shows n d) last
-          (subst (λ (l : FrameLine). IsShown frames order place bit l.busy l.queue) (at ∙ get_or_default lines place line d within)
+          (subst (λ (l : FrameLine). IsShown frames order place bit l.busy l.queue)
+          (at ∙ get_or_default lines place line d within)
           (subst (IsShown frames order place bit line.busy) same shown))

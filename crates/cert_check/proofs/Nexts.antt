@@ -16,7 +16,8 @@ module _ (problem : Parts) (aim : Aim) (before after : Walk) (node : Node) where
   rest = places_left problem.items 0 (labels_of before.partial)
 
   -- a node that doesn't stand fails the walk
-  pub node_fails : ¬ StandsNext problem aim before node → after.failed ≡ true → TakesOne problem aim before after node
+  pub node_fails : ¬ StandsNext problem aim before node → after.failed ≡ true
+      → TakesOne problem aim before after node
   unfolding NodesStand
   node_fails not_here failed = record {
     stays = λ e. failed;
@@ -26,13 +27,16 @@ module _ (problem : Parts) (aim : Aim) (before after : Walk) (node : Node) where
     least = λ e. absurd (true≢false (sym failed ∙ e));
   }
     where
-      by : (over : Bool) → before.over ≡ over → before.failed ≡ false → NodesStand (goal_of problem aim) (cond over [] (labels_of before.partial ∷ rest)) (node ∷ []) → ⊥
+      by : (over : Bool) → before.over ≡ over → before.failed ≡ false
+          → NodesStand (goal_of problem aim) (cond over [] (labels_of before.partial ∷ rest)) (node ∷ []) → ⊥
       by true e f stands = stands
       by false e f stands = not_here ((f, e), stands.0)
 
   -- one that stands takes it on
-  pub node_taken : StandsNext problem aim before node → after.failed ≡ before.failed → places_to_come problem after ≡ places_of (goal_of problem aim) (labels_of before.partial) node ++ rest
-      → after.least ≡ lowered before.least (bounds_at (goal_of problem aim) (labels_of before.partial) node) → TakesOne problem aim before after node
+  pub node_taken : StandsNext problem aim before node → after.failed ≡ before.failed
+      → places_to_come problem after ≡ places_of (goal_of problem aim) (labels_of before.partial) node ++ rest
+      → after.least ≡ lowered before.least (bounds_at (goal_of problem aim) (labels_of before.partial) node)
+      → TakesOne problem aim before after node
   unfolding NodesStand places_after_nodes bounds_of
   node_taken here same places least = record {
     stays = λ e. same ∙ e;
@@ -40,7 +44,8 @@ module _ (problem : Parts) (aim : Aim) (before after : Walk) (node : Node) where
     stands = λ e. subst (λ ps. NodesStand (goal_of problem aim) ps (node ∷ [])) (sym there) (here.1, tt);
     places = λ e. places ∙ ap (λ ps. places_after_nodes (goal_of problem aim) ps (node ∷ [])) (sym there);
     least = λ e.
-        least ∙ ap (lowered before.least) (sym (append-nil (bounds_at (goal_of problem aim) (labels_of before.partial) node)))
+        least ∙ ap (lowered before.least)
+        (sym (append-nil (bounds_at (goal_of problem aim) (labels_of before.partial) node)))
         ∙ ap (λ ps. lowered before.least (bounds_of (goal_of problem aim) ps (node ∷ []))) (sym there);
   }
     where
@@ -55,6 +60,7 @@ pub denied : (b : Bool) (P : Type 0) → b ≡ false → (IsTrue b ↔ P) → ¬
 denied b P e iff = λ p. false≢true (sym e ∙ iff.1 p)
 
 -- the places to come after a leaf
-pub passed : (went : Bool) (after there : List (List ℕ)) → (went ≡ true → after ≡ there) → (went ≡ false → after ≡ []) → cond (not went) [] there ≡ after
+pub passed : (went : Bool) (after there : List (List ℕ)) → (went ≡ true → after ≡ there)
+    → (went ≡ false → after ≡ []) → cond (not went) [] there ≡ after
 passed true after there next none = sym (next refl)
 passed false after there next none = sym (none refl)

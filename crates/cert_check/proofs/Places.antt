@@ -27,7 +27,12 @@ module _ (problem : Parts) (partial : Partial) (belongs : Belongs problem partia
   -- there are few classes
   pub few_classes : classes_of (labels_of partial) ≤ 128
   few_classes =
-      omega (arith, classes_low problem.items (labels_of partial) legal, legal.within, (tests problem belongs.stands).few_items)
+      omega (
+        arith,
+        classes_low problem.items (labels_of partial) legal,
+        legal.within,
+        (tests problem belongs.stands).few_items,
+      )
 
   -- the bound is low
   pub bound_low : lower8_of problem problem.items (labels_of partial) < 2 ^ 128
@@ -36,7 +41,8 @@ module _ (problem : Parts) (partial : Partial) (belongs : Belongs problem partia
       (omega (arith, legal.within, (tests problem belongs.stands).few_items))
 
   -- the frames are those of the response-time test
-  module _ (frames : List Timed) (is : frames ≡ frames_of_classes problem problem.items (labels_of partial)) where
+  module _ (frames : List Timed)
+      (is : frames ≡ frames_of_classes problem problem.items (labels_of partial)) where
     pub in_range : All IsInRange frames
     in_range =
         subst (All IsInRange) (sym is)
@@ -48,4 +54,5 @@ module _ (problem : Parts) (partial : Partial) (belongs : Belongs problem partia
     pub common : IsCommon frames problem.hyper
     common =
         common_period problem (labels_of partial) frames belongs.stands
-        (are_items problem belongs.stands problem.items (all_items problem)) (first_labels problem.items (labels_of partial) legal) is
+        (are_items problem belongs.stands problem.items (all_items problem))
+        (first_labels problem.items (labels_of partial) legal) is

@@ -18,15 +18,19 @@ use Rattle.cert_check.specs.Walk.{goal_of, start}
 use Rattle.cert_check.proofs.Walks.{lowered_least, lowered_none, lowered_some_of, tree_fails, tree_least, tree_stands}
 
 -- a list whose length is tested to be 0 is empty
-pub empty_from : {A B : Type 0} (f : A → B) (xs : List A) (ys : List B) (b : Bool) → b ≡ (length xs == 0) → b ≡ true
+pub empty_from : {A B : Type 0} (f : A → B) (xs : List A) (ys : List B) (b : Bool) → b ≡ (length xs == 0)
+    → b ≡ true
     → map f xs ≡ ys → ys ≡ []
 empty_from f [] ys b is true_is same = sym same
-empty_from f (x ∷ xs) ys b is true_is same = absurd (omega (arith, eqb-true (length (x ∷ xs)) 0 (sym is ∙ true_is)))
+empty_from f (x ∷ xs) ys b is true_is same =
+    absurd (omega (arith, eqb-true (length (x ∷ xs)) 0 (sym is ∙ true_is)))
 
-module _ (problem : Parts) (best : Option ℕ) (may_leave : Bool) (cert : CertParts) (tree : Plain) (value : Option ℕ)
+module _ (problem : Parts) (best : Option ℕ) (may_leave : Bool) (cert : CertParts) (tree : Plain)
+    (value : Option ℕ)
     (before after : Way) (is : Some tree ≡ cert.main_tree) (same : value ≡ option_map (λ load. 8 * load) best)
     (begins : before ≡ start)
-    (takes : Takes (goal_of problem (record { value = value; may_leave = may_leave })) before after (nodes_of tree)) where
+    (takes : Takes (goal_of problem (record { value = value; may_leave = may_leave })) before after
+    (nodes_of tree)) where
   -- what the tree is to show by a value
   abbrev goal_with : Option ℕ → Goal
   goal_with v = goal_of problem (record { value = v; may_leave = may_leave })
@@ -38,7 +42,8 @@ module _ (problem : Parts) (best : Option ℕ) (may_leave : Bool) (cert : CertPa
   pub trees_fail : after.failed ≡ true → ¬ TreesStand problem best may_leave cert
   trees_fail failed stands =
       tree_fails (goal_with value) tree after whole failed
-      (subst (λ v. TreeStands (goal_with v) [] tree) (sym same) (subst (MainStands problem best may_leave) (sym is) stands.1))
+      (subst (λ v. TreeStands (goal_with v) [] tree) (sym same)
+      (subst (MainStands problem best may_leave) (sym is) stands.1))
 
   pub trees_found : after.failed ≡ false → cert.lemmas ≡ []
       → TreesStand problem best may_leave cert × (after.least ≡ least_left problem cert)
@@ -46,7 +51,8 @@ module _ (problem : Parts) (best : Option ℕ) (may_leave : Bool) (cert : CertPa
     (
       none,
       subst (MainStands problem best may_leave) is
-          (subst (λ v. TreeStands (goal_with v) [] tree) same (tree_stands (goal_with value) tree after whole kept)),
+          (subst (λ v. TreeStands (goal_with v) [] tree) same
+          (tree_stands (goal_with value) tree after whole kept)),
     ),
     tree_least (goal_with value) tree after whole kept
         ∙ ap (λ t. lowered None (map (lower8_of problem problem.items) (open_of problem t))) is,
@@ -63,7 +69,8 @@ module _ (problem : Parts) (best : Option ℕ) (cert : CertParts) where
   -- no leaf is left open
   pub none_open : (found : Option ℕ) → IsWalked problem best true cert (Ok found) → found ≡ None
       → ¬ TreeOfBest KindBetween problem best cert
-  none_open found walked empty holds = lowered_none bounds (sym walked.1 ∙ empty) (omega (arith, long, holds.2))
+  none_open found walked empty holds =
+      lowered_none bounds (sym walked.1 ∙ empty) (omega (arith, long, holds.2))
 
   lower_same : (b : Option ℕ) (n : ℕ) → n ≡ least_open problem cert.main_tree
       → lower_with b n ≡ lower_of problem b cert.main_tree
@@ -71,7 +78,8 @@ module _ (problem : Parts) (best : Option ℕ) (cert : CertParts) where
   lower_same (Some load) n e = ap (λ x. min x (8 * load)) e
 
   -- some are
-  pub some_open : (found : Option ℕ) (n lower : ℕ) → IsWalked problem best true cert (Ok found) → found ≡ Some n
+  pub some_open : (found : Option ℕ) (n lower : ℕ) → IsWalked problem best true cert (Ok found)
+      → found ≡ Some n
       → lower ≡ lower_with best n → TreeOfBest KindBetween problem best cert
       × (verdict.Between best lower ≡ verdict.Between best (lower_of problem best cert.main_tree))
   some_open found n lower walked there is =

@@ -15,38 +15,46 @@ use Rattle.cert_check.specs.Nodes.{Node, inner_node, bound_leaf, open_leaf, fail
 
 module _ (goal : Goal) where
   -- all stand where the first ones stand, and the further ones where those leave off
-  pub stand_append : (places : List (List ℕ)) (ns ms : List Node) → NodesStand goal places ns → NodesStand goal (places_after_nodes goal places ns) ms → NodesStand goal places (ns ++ ms)
+  pub stand_append : (places : List (List ℕ)) (ns ms : List Node) → NodesStand goal places ns
+      → NodesStand goal (places_after_nodes goal places ns) ms → NodesStand goal places (ns ++ ms)
   unfolding NodesStand places_after_nodes
   stand_append places [] ms a b = b
   stand_append [] (n ∷ ns) ms a b = absurd a
   stand_append (p ∷ places) (n ∷ ns) ms a b = (a.0, stand_append (places_of goal p n ++ places) ns ms a.1 b)
 
   -- and conversely
-  pub stand_first : (places : List (List ℕ)) (ns ms : List Node) → NodesStand goal places (ns ++ ms) → NodesStand goal places ns
+  pub stand_first : (places : List (List ℕ)) (ns ms : List Node) → NodesStand goal places (ns ++ ms)
+      → NodesStand goal places ns
   unfolding NodesStand
   stand_first places [] ms a = tt
   stand_first [] (n ∷ ns) ms a = absurd a
   stand_first (p ∷ places) (n ∷ ns) ms a = (a.0, stand_first (places_of goal p n ++ places) ns ms a.1)
 
-  pub stand_further : (places : List (List ℕ)) (ns ms : List Node) → NodesStand goal places (ns ++ ms) → NodesStand goal (places_after_nodes goal places ns) ms
+  pub stand_further : (places : List (List ℕ)) (ns ms : List Node) → NodesStand goal places (ns ++ ms)
+      → NodesStand goal (places_after_nodes goal places ns) ms
   unfolding NodesStand places_after_nodes
   stand_further places [] ms a = a
   stand_further [] (n ∷ ns) ms a = absurd a
   stand_further (p ∷ places) (n ∷ ns) ms a = stand_further (places_of goal p n ++ places) ns ms a.1
 
-  pub after_append : (places : List (List ℕ)) (ns ms : List Node) → NodesStand goal places ns → places_after_nodes goal places (ns ++ ms) ≡ places_after_nodes goal (places_after_nodes goal places ns) ms
+  pub after_append : (places : List (List ℕ)) (ns ms : List Node) → NodesStand goal places ns
+      → places_after_nodes goal places (ns ++ ms)
+      ≡ places_after_nodes goal (places_after_nodes goal places ns) ms
   unfolding NodesStand places_after_nodes
   after_append places [] ms a = refl
   after_append [] (n ∷ ns) ms a = absurd a
   after_append (p ∷ places) (n ∷ ns) ms a = after_append (places_of goal p n ++ places) ns ms a.1
 
-  pub bounds_append : (places : List (List ℕ)) (ns ms : List Node) → NodesStand goal places ns → bounds_of goal places (ns ++ ms) ≡ bounds_of goal places ns ++ bounds_of goal (places_after_nodes goal places ns) ms
+  pub bounds_append : (places : List (List ℕ)) (ns ms : List Node) → NodesStand goal places ns
+      → bounds_of goal places (ns ++ ms) ≡ bounds_of goal places ns
+      ++ bounds_of goal (places_after_nodes goal places ns) ms
   unfolding NodesStand places_after_nodes bounds_of
   bounds_append places [] ms a = refl
   bounds_append [] (n ∷ ns) ms a = absurd a
   bounds_append (p ∷ places) (n ∷ ns) ms a =
       ap (λ xs. bounds_at goal p n ++ xs) (bounds_append (places_of goal p n ++ places) ns ms a.1)
-      ∙ sym (append_assoc (bounds_at goal p n) (bounds_of goal (places_of goal p n ++ places) ns) (bounds_of goal (places_after_nodes goal (places_of goal p n ++ places) ns) ms))
+      ∙ sym (append_assoc (bounds_at goal p n) (bounds_of goal (places_of goal p n ++ places) ns)
+      (bounds_of goal (places_after_nodes goal (places_of goal p n ++ places) ns) ms))
 
 pub lowered_append : (o : Option ℕ) (xs ys : List ℕ) → lowered o (xs ++ ys) ≡ lowered (lowered o xs) ys
 lowered_append o [] ys = refl
@@ -68,7 +76,8 @@ module _ (goal : Goal) where
   }
 
   -- one that has failed takes any further ones
-  pub takes_failed : (before after : Way) (ns ms : List Node) → after.failed ≡ true → Takes goal before after ns → Takes goal before after (ns ++ ms)
+  pub takes_failed : (before after : Way) (ns ms : List Node) → after.failed ≡ true
+      → Takes goal before after ns → Takes goal before after (ns ++ ms)
   takes_failed before after ns ms e a = record {
     stays = λ f. e;
     fails = λ f g s. a.fails f g (stand_first goal before.places ns ms s);
@@ -81,7 +90,8 @@ module _ (goal : Goal) where
   pub takes_any : (way : Way) (ns : List Node) → way.failed ≡ true → Takes goal way way ns
   takes_any way ns e = takes_failed way way [] ns e (takes_none way)
 
-  pub takes_append : (before between now : Way) (ns ms : List Node) → Takes goal before between ns → Takes goal between now ms → Takes goal before now (ns ++ ms)
+  pub takes_append : (before between now : Way) (ns ms : List Node) → Takes goal before between ns
+      → Takes goal between now ms → Takes goal before now (ns ++ ms)
   takes_append before between now ns ms a b = by between.failed refl
     where
       by : (failed : Bool) → between.failed ≡ failed → Takes goal before now (ns ++ ms)
@@ -95,23 +105,34 @@ module _ (goal : Goal) where
       by false e =
           let first : NodesStand goal before.places ns = a.stands e in record {
             stays = λ f. absurd (true≢false (sym (a.stays f) ∙ e));
-            fails = λ f g s. b.fails e g (subst (λ ps. NodesStand goal ps ms) (sym (a.places e)) (stand_further goal before.places ns ms s));
-            stands = λ f. stand_append goal before.places ns ms first (subst (λ ps. NodesStand goal ps ms) (a.places e) (b.stands f));
-            places = λ f. b.places f ∙ ap (λ ps. places_after_nodes goal ps ms) (a.places e) ∙ sym (after_append goal before.places ns ms first);
+            fails =
+                λ f g s. b.fails e g (subst (λ ps. NodesStand goal ps ms) (sym (a.places e))
+                (stand_further goal before.places ns ms s));
+            stands =
+                λ f. stand_append goal before.places ns ms first
+                (subst (λ ps. NodesStand goal ps ms) (a.places e) (b.stands f));
+            places = λ f. b.places f ∙ ap (λ ps. places_after_nodes goal ps ms) (a.places e)
+                ∙ sym (after_append goal before.places ns ms first);
             least = λ f.
                 b.least f ∙ ap (λ ps. lowered between.least (bounds_of goal ps ms)) (a.places e)
-                ∙ ap (λ o. lowered o (bounds_of goal (places_after_nodes goal before.places ns) ms)) (a.least e)
-                ∙ sym (lowered_append before.least (bounds_of goal before.places ns) (bounds_of goal (places_after_nodes goal before.places ns) ms))
+                ∙ ap (λ o. lowered o (bounds_of goal (places_after_nodes goal before.places ns) ms))
+                (a.least e)
+                ∙ sym (lowered_append before.least (bounds_of goal before.places ns)
+                (bounds_of goal (places_after_nodes goal before.places ns) ms))
                 ∙ ap (lowered before.least) (sym (bounds_append goal before.places ns ms first));
           }
 
   -- the nodes of one more element of a list were taken
-  pub takes_more : {X : Type 0} (f : X → List Node) (xs : List X) (i : ℕ) (x : X) (before between now : Way) (first : List Node) → i < length xs → x ≡ get_or xs i x
-      → Takes goal before between (first ++ flat_map f (take i xs)) → Takes goal between now (f x) → Takes goal before now (first ++ flat_map f (take (i + 1) xs))
+  pub takes_more : {X : Type 0} (f : X → List Node) (xs : List X) (i : ℕ) (x : X) (before between now : Way)
+      (first : List Node) → i < length xs → x ≡ get_or xs i x
+      → Takes goal before between (first ++ flat_map f (take i xs)) → Takes goal between now (f x)
+      → Takes goal before now (first ++ flat_map f (take (i + 1) xs))
   takes_more f xs i x before between now first lt is so_far step =
       let joined : flat_map f (take i xs) ++ f x ≡ flat_map f (take (i + 1) xs) =
-      flat_map_more f [] (take i xs) x ∙ ap (flat_map f) (ap (λ y. take i xs ++ y ∷ []) is ∙ sym (take_more xs i x lt)) in
-      subst (Takes goal before now) (append_assoc first (flat_map f (take i xs)) (f x) ∙ ap (λ ns. first ++ ns) joined)
+      flat_map_more f [] (take i xs) x
+      ∙ ap (flat_map f) (ap (λ y. take i xs ++ y ∷ []) is ∙ sym (take_more xs i x lt)) in
+      subst (Takes goal before now)
+      (append_assoc first (flat_map f (take i xs)) (f x) ∙ ap (λ ns. first ++ ns) joined)
       (takes_append before between now (first ++ flat_map f (take i xs)) (f x) so_far step)
 
 -- ---- the nodes of a tree
@@ -126,10 +147,13 @@ unfolding nodes_of_each
 each_onto [] = refl
 each_onto (t ∷ ts) = ap (λ ns. nodes_of t ++ ns) (each_onto ts)
 
-pub nodes_of_inner : {T : Type 0} (plain : T → Plain) (ts : List T) → nodes_of (inner (onto (map plain ts) none)) ≡ inner_node (length ts) ∷ flat_map (λ t. nodes_of (plain t)) ts
+pub nodes_of_inner : {T : Type 0} (plain : T → Plain) (ts : List T)
+    → nodes_of (inner (onto (map plain ts) none))
+    ≡ inner_node (length ts) ∷ flat_map (λ t. nodes_of (plain t)) ts
 unfolding nodes_of
 nodes_of_inner plain ts =
-    ap (λ n. inner_node n ∷ nodes_of_each (onto (map plain ts) none)) (count_onto (map plain ts) ∙ length-map ts plain)
+    ap (λ n. inner_node n ∷ nodes_of_each (onto (map plain ts) none))
+    (count_onto (map plain ts) ∙ length-map ts plain)
     ∙ ap (λ ns. inner_node (length ts) ∷ ns) (each_onto (map plain ts) ∙ flat_map-map nodes_of plain ts)
 
 pub nodes_of_bound : nodes_of bound ≡ bound_leaf ∷ []
@@ -149,7 +173,8 @@ module _ (goal : Goal) where
   abbrev put_each : List ℕ → List ℕ → List (List ℕ)
   put_each p labels = map (λ label. p ++ label ∷ []) labels
 
-  each_count : (p : List ℕ) (labels : List ℕ) (ts : Plains) → EachStands goal p labels ts → count_trees ts ≡ length labels
+  each_count : (p : List ℕ) (labels : List ℕ) (ts : Plains) → EachStands goal p labels ts
+      → count_trees ts ≡ length labels
   each_count p [] none h = refl
   each_count p [] (more t ts) h = absurd h
   each_count p (label ∷ labels) none h = absurd h
@@ -164,7 +189,8 @@ module _ (goal : Goal) where
   pub record EachWalked (p labels : List ℕ) (rest : List (List ℕ)) (ts : Plains) : Type 0 where
     pub stand : NodesStand goal (put_each p labels ++ rest) (nodes_of_each ts)
     pub after : places_after_nodes goal (put_each p labels ++ rest) (nodes_of_each ts) ≡ rest
-    pub opens : bounds_of goal (put_each p labels ++ rest) (nodes_of_each ts) ≡ map goal.lower8 (open_places_each goal.items p labels ts)
+    pub opens : bounds_of goal (put_each p labels ++ rest) (nodes_of_each ts)
+        ≡ map goal.lower8 (open_places_each goal.items p labels ts)
 
   mutual
     unfolding nodes_of nodes_of_each NodesStand places_after_nodes bounds_of
@@ -172,7 +198,8 @@ module _ (goal : Goal) where
     -- where the tree stands
     pub walked : (p : List ℕ) (rest : List (List ℕ)) (t : Plain) → TreeStands goal p t → TreeWalked p rest t
     walked p rest (inner ts) h =
-        let each : EachWalked p (options_of goal.items p) rest ts = walked_each p (options_of goal.items p) rest ts h.1 in record {
+        let each : EachWalked p (options_of goal.items p) rest ts =
+        walked_each p (options_of goal.items p) rest ts h.1 in record {
           stand = ((h.0, each_count p (options_of goal.items p) ts h.1), each.stand);
           after = each.after;
           opens = each.opens;
@@ -181,7 +208,8 @@ module _ (goal : Goal) where
     walked p rest left h = record { stand = (h, tt); after = refl; opens = refl }
     walked p rest (fail named) h = record { stand = (h, tt); after = refl; opens = refl }
 
-    walked_each : (p labels : List ℕ) (rest : List (List ℕ)) (ts : Plains) → EachStands goal p labels ts → EachWalked p labels rest ts
+    walked_each : (p labels : List ℕ) (rest : List (List ℕ)) (ts : Plains) → EachStands goal p labels ts
+        → EachWalked p labels rest ts
     walked_each p [] rest none h = record { stand = tt; after = refl; opens = refl }
     walked_each p [] rest (more t ts) h = absurd h
     walked_each p (label ∷ labels) rest none h = absurd h
@@ -190,37 +218,46 @@ module _ (goal : Goal) where
         let later : List (List ℕ) = put_each p labels ++ rest in
         let one : TreeWalked here later t = walked here later t h.0 in
         let each : EachWalked p labels rest ts = walked_each p labels rest ts h.1 in record {
-          stand = stand_append goal (here ∷ later) (nodes_of t) (nodes_of_each ts) one.stand (subst (λ ps. NodesStand goal ps (nodes_of_each ts)) (sym one.after) each.stand);
-          after = after_append goal (here ∷ later) (nodes_of t) (nodes_of_each ts) one.stand ∙ ap (λ ps. places_after_nodes goal ps (nodes_of_each ts)) one.after ∙ each.after;
+          stand =
+              stand_append goal (here ∷ later) (nodes_of t) (nodes_of_each ts) one.stand
+              (subst (λ ps. NodesStand goal ps (nodes_of_each ts)) (sym one.after) each.stand);
+          after = after_append goal (here ∷ later) (nodes_of t) (nodes_of_each ts) one.stand
+              ∙ ap (λ ps. places_after_nodes goal ps (nodes_of_each ts)) one.after ∙ each.after;
           opens =
               bounds_append goal (here ∷ later) (nodes_of t) (nodes_of_each ts) one.stand
-              ∙ ap (λ ps. bounds_of goal (here ∷ later) (nodes_of t) ++ bounds_of goal ps (nodes_of_each ts)) one.after
+              ∙ ap (λ ps. bounds_of goal (here ∷ later) (nodes_of t) ++ bounds_of goal ps (nodes_of_each ts))
+              one.after
               ∙ ap (λ xs. xs ++ bounds_of goal later (nodes_of_each ts)) one.opens
               ∙ ap (λ xs. map goal.lower8 (open_places goal.items here t) ++ xs) each.opens
-              ∙ sym (map-append goal.lower8 (open_places goal.items here t) (open_places_each goal.items p labels ts));
+              ∙ sym (map-append goal.lower8 (open_places goal.items here t)
+              (open_places_each goal.items p labels ts));
         }
 
   mutual
     unfolding nodes_of nodes_of_each NodesStand
 
     -- a tree whose nodes stand stands
-    pub stood : (p : List ℕ) (rest : List (List ℕ)) (t : Plain) → NodesStand goal (p ∷ rest) (nodes_of t) → TreeStands goal p t
+    pub stood : (p : List ℕ) (rest : List (List ℕ)) (t : Plain) → NodesStand goal (p ∷ rest) (nodes_of t)
+        → TreeStands goal p t
     stood p rest (inner ts) h = (h.0.0, stood_each p (options_of goal.items p) rest ts h.0.1 h.1)
     stood p rest bound h = h.0
     stood p rest left h = h.0
     stood p rest (fail named) h = h.0
 
-    stood_each : (p labels : List ℕ) (rest : List (List ℕ)) (ts : Plains) → count_trees ts ≡ length labels → NodesStand goal (put_each p labels ++ rest) (nodes_of_each ts) → EachStands goal p labels ts
+    stood_each : (p labels : List ℕ) (rest : List (List ℕ)) (ts : Plains) → count_trees ts ≡ length labels
+        → NodesStand goal (put_each p labels ++ rest) (nodes_of_each ts) → EachStands goal p labels ts
     stood_each p [] rest none e h = tt
     stood_each p [] rest (more t ts) e h = absurd (omega (arith, e))
     stood_each p (label ∷ labels) rest none e h = absurd (omega (arith, e))
     stood_each p (label ∷ labels) rest (more t ts) e h =
         let here : List ℕ = p ++ label ∷ [] in
         let later : List (List ℕ) = put_each p labels ++ rest in
-        let one : TreeStands goal here t = stood here later t (stand_first goal (here ∷ later) (nodes_of t) (nodes_of_each ts) h) in (
+        let one : TreeStands goal here t =
+        stood here later t (stand_first goal (here ∷ later) (nodes_of t) (nodes_of_each ts) h) in (
           one,
           stood_each p labels rest ts (omega (arith, e))
-              (subst (λ ps. NodesStand goal ps (nodes_of_each ts)) (walked here later t one).after (stand_further goal (here ∷ later) (nodes_of t) (nodes_of_each ts) h)),
+              (subst (λ ps. NodesStand goal ps (nodes_of_each ts)) (walked here later t one).after
+              (stand_further goal (here ∷ later) (nodes_of t) (nodes_of_each ts) h)),
         )
 
 -- ---- a walk over a whole tree
@@ -242,7 +279,8 @@ pub lowered_none : (xs : List ℕ) → lowered None xs ≡ None → ¬ (1 ≤ le
 lowered_none xs empty some = let e : Some (least xs) ≡ None = sym (lowered_least xs some) ∙ empty in absurd cc
 
 module _ (goal : Goal) (tree : Plain) (after : Way)
-    (takes : Takes goal (record { failed = false; places = [] ∷ []; least = None }) after (nodes_of tree)) where
+    (takes : Takes goal (record { failed = false; places = [] ∷ []; least = None }) after
+    (nodes_of tree)) where
   -- it fails exactly where the tree doesn't stand
   pub tree_fails : after.failed ≡ true → ¬ TreeStands goal [] tree
   tree_fails failed stands = takes.fails refl failed (walked goal [] [] tree stands).stand
@@ -251,5 +289,6 @@ module _ (goal : Goal) (tree : Plain) (after : Way)
   tree_stands kept = stood goal [] [] tree (takes.stands kept)
 
   -- and finds the least bound at the tree's open leaves
-  pub tree_least : after.failed ≡ false → after.least ≡ lowered None (map goal.lower8 (open_places goal.items [] tree))
+  pub tree_least : after.failed ≡ false
+      → after.least ≡ lowered None (map goal.lower8 (open_places goal.items [] tree))
   tree_least kept = takes.least kept ∙ ap (lowered None) (walked goal [] [] tree (tree_stands kept)).opens

@@ -20,7 +20,8 @@ IsFault fault.RejectedTiming judged = FailsFirst part.Timing judged
 IsFault fault.RejectedTree judged = FailsFirst part.Tree judged
 IsFault fault.Memory judged = ⊤
 
--- what a matrix and a certificate of a problem are found to be: the rule holds with the verdict, or a part of it fails first
+-- what a matrix and a certificate of a problem are found to be: the rule holds with the verdict, or a part of
+-- it fails first
 abbrev pub IsFound : Parts → List MatrixRow → CertParts → Result Verdict CheckFault → Type 0
 IsFound problem rows cert (Ok shown) = Accepts (judged_of problem rows cert) shown
 IsFound problem rows cert (Err why) = IsFault why (judged_of problem rows cert)

@@ -1,4 +1,5 @@
--- A walk over the nodes of a tree in preorder, which judges each at the place where it stands: the project's own.
+-- A walk over the nodes of a tree in preorder, which judges each at the place where it stands: the project's
+-- own.
 use Rattle.std.specs.Prelude.{◌≡◌, ◌<◌, ⊤, ℕ, suc, zero, Bool, true, false, min, List, [], ◌∷◌, ◌++◌, length, Option, None, Some}
 use Rattle.cert_text.specs.Trees.{Plain, Plains, bound, fail, inner, left, more, none}
 use Rattle.response_test.specs.declared.evidence.Evidence.{Evidence}
@@ -31,7 +32,8 @@ unfoldable mutual
   nodes_of_each none = []
   nodes_of_each (more tree trees) = nodes_of tree ++ nodes_of_each trees
 
--- a node stands at a partial grouping: an inner node where items are left, with one subtree for each option; a leaf by its
+-- a node stands at a partial grouping: an inner node where items are left, with one subtree for each option;
+-- a leaf by its
 -- rule
 abbrev pub NodeStands : Goal → List ℕ → Node → Type 0
 NodeStands goal p (inner_node n) = (length p < length goal.items) × (n ≡ length (options_of goal.items p))
@@ -57,19 +59,22 @@ bounds_at goal p (fail_leaf named) = []
 unfoldable pub NodesStand : Goal → List (List ℕ) → List Node → Type 0
 NodesStand goal places [] = ⊤
 NodesStand goal [] (node ∷ nodes) = ⊥
-NodesStand goal (p ∷ places) (node ∷ nodes) = NodeStands goal p node × NodesStand goal (places_of goal p node ++ places) nodes
+NodesStand goal (p ∷ places) (node ∷ nodes) =
+    NodeStands goal p node × NodesStand goal (places_of goal p node ++ places) nodes
 
 -- the places to come after them
 unfoldable pub places_after_nodes : Goal → List (List ℕ) → List Node → List (List ℕ)
 places_after_nodes goal places [] = places
 places_after_nodes goal [] (node ∷ nodes) = []
-places_after_nodes goal (p ∷ places) (node ∷ nodes) = places_after_nodes goal (places_of goal p node ++ places) nodes
+places_after_nodes goal (p ∷ places) (node ∷ nodes) =
+    places_after_nodes goal (places_of goal p node ++ places) nodes
 
 -- the bounds at the open leaves among them
 unfoldable pub bounds_of : Goal → List (List ℕ) → List Node → List ℕ
 bounds_of goal places [] = []
 bounds_of goal [] (node ∷ nodes) = []
-bounds_of goal (p ∷ places) (node ∷ nodes) = bounds_at goal p node ++ bounds_of goal (places_of goal p node ++ places) nodes
+bounds_of goal (p ∷ places) (node ∷ nodes) =
+    bounds_at goal p node ++ bounds_of goal (places_of goal p node ++ places) nodes
 
 -- the least of some numbers and of what was the least before, if anything was
 abbrev pub lowered : Option ℕ → List ℕ → Option ℕ
@@ -77,14 +82,16 @@ lowered least [] = least
 lowered None (x ∷ xs) = lowered (Some x) xs
 lowered (Some least) (x ∷ xs) = lowered (Some (min least x)) xs
 
--- Where a walk is: whether some node didn't stand, the places still to come in preorder, and the least bound at the open
+-- Where a walk is: whether some node didn't stand, the places still to come in preorder, and the least bound
+-- at the open
 -- leaves so far, if there was one.
 pub record Way : Type 0 where
   pub failed : Bool
   pub places : List (List ℕ)
   pub least : Option ℕ
 
--- nodes took a walk from the one to the other: it failed exactly where one of them doesn't stand, and stays failed
+-- nodes took a walk from the one to the other: it failed exactly where one of them doesn't stand, and stays
+-- failed
 pub record Takes (goal : Goal) (before after : Way) (nodes : List Node) : Type 0 where
   pub stays : before.failed ≡ true → after.failed ≡ true
   pub fails : before.failed ≡ false → after.failed ≡ true → ¬ NodesStand goal before.places nodes

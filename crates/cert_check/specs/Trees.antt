@@ -18,11 +18,13 @@ TreesStand problem best may_leave cert = (cert.lemmas ≡ []) × MainStands prob
 
 -- the least bound at the open leaves of the main tree, if it has any
 abbrev pub least_left : Parts → CertParts → Option ℕ
-least_left problem cert = lowered None (map (lower8_of problem problem.items) (open_of problem cert.main_tree))
+least_left problem cert =
+    lowered None (map (lower8_of problem problem.items) (open_of problem cert.main_tree))
 
 -- the answer is that bound, where the trees stand
 abbrev pub IsWalked : Parts → Option ℕ → Bool → CertParts → Result (Option ℕ) CheckFault → Type 0
-IsWalked problem best may_leave cert (Ok least) = TreesStand problem best may_leave cert × (least ≡ least_left problem cert)
+IsWalked problem best may_leave cert (Ok least) =
+    TreesStand problem best may_leave cert × (least ≡ least_left problem cert)
 IsWalked problem best may_leave cert (Err fault.RejectedMatrix) = ⊥
 IsWalked problem best may_leave cert (Err fault.RejectedTiming) = ⊥
 IsWalked problem best may_leave cert (Err fault.RejectedTree) = ¬ TreesStand problem best may_leave cert
@@ -43,7 +45,8 @@ abbrev pub TreeOfBest : Kind → Parts → Option ℕ → CertParts → Type 0
 TreeOfBest KindPlaced problem best cert = ⊤
 TreeOfBest KindTimed problem best cert = ⊤
 TreeOfBest KindBetween problem best cert =
-    (cert.lemmas ≡ []) × MainStands problem best true cert.main_tree × (1 ≤ length (open_of problem cert.main_tree))
+    (cert.lemmas ≡ []) × MainStands problem best true cert.main_tree
+    × (1 ≤ length (open_of problem cert.main_tree))
 TreeOfBest KindBest problem best cert = TreesStand problem best false cert
 TreeOfBest KindNoSolution problem best cert = TreesStand problem best false cert
 

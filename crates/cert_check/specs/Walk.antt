@@ -36,7 +36,8 @@ places_to_come problem walk =
 
 -- where the walk is
 abbrev pub way_of : Parts → Walk → Way
-way_of problem walk = record { failed = walk.failed; places = places_to_come problem walk; least = walk.least }
+way_of problem walk =
+    record { failed = walk.failed; places = places_to_come problem walk; least = walk.least }
 
 -- where it begins
 abbrev pub start : Way
@@ -50,8 +51,10 @@ pub record Passes (problem : Parts) (before after : Walk) : Type 0 where
 
 -- a node stands at the next place
 abbrev pub StandsNext : Parts → Aim → Walk → Node → Type 0
-StandsNext problem aim walk node = HasPlace walk × NodeStands (goal_of problem aim) (labels_of walk.partial) node
+StandsNext problem aim walk node =
+    HasPlace walk × NodeStands (goal_of problem aim) (labels_of walk.partial) node
 
 -- one node took the walk from the one to the other
 abbrev pub TakesOne : Parts → Aim → Walk → Walk → Node → Type 0
-TakesOne problem aim before after node = Takes (goal_of problem aim) (way_of problem before) (way_of problem after) (node ∷ [])
+TakesOne problem aim before after node =
+    Takes (goal_of problem aim) (way_of problem before) (way_of problem after) (node ∷ [])

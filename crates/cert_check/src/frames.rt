@@ -18,11 +18,14 @@ const NO_FRAME: Timed = Timed {
 
 /// The classes of a partial grouping of all items of a problem, as frames by label, and after them no frames.
 pub(crate) fn frames_at(partial: &Partial) -> [Timed; 128]
-    requires { (problem : Parts) × Belongs problem partial.now × (range_of problem partial.now ≡ problem.items) }
+    requires { (problem : Parts) × Belongs problem partial.now
+        × (range_of problem partial.now ≡ problem.items) }
     ensures room { length result ≡ 128 }
     ensures few { classes_of (labels_of partial.now) ≤ 128 }
-    ensures value { (problem : Parts) → Belongs problem partial.now → range_of problem partial.now ≡ problem.items
-        → take (classes_of (labels_of partial.now)) result ≡ frames_of_classes problem problem.items (labels_of partial.now) }
+    ensures value { (problem : Parts) → Belongs problem partial.now
+        → range_of problem partial.now ≡ problem.items
+        → take (classes_of (labels_of partial.now)) result
+        ≡ frames_of_classes problem problem.items (labels_of partial.now) }
 {
     let mut frames = [NO_FRAME; 128];
     for label in 0..partial.classes() {

@@ -1,7 +1,8 @@
 //! Whether a certificate shows what it says of a matrix.
 //!
-//! The one contract that upper crates use is that of [`check_cert`]: it answers by the acceptance rule, with the verdict
-//! of the certificate's kind or the first part that fails, and where it gives a verdict, what follows from it holds.
+//! The one contract that upper crates use is that of [`check_cert`]: it answers by the acceptance rule, with
+//! the verdict of the certificate's kind or the first part that fails, and where it gives a verdict, what
+//! follows from it holds.
 #![tactic(auto)]
 
 mod check;

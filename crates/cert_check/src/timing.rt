@@ -14,8 +14,8 @@ use pack_model::Problem;
 use response_test::shown;
 use std::alloc::Global;
 
-/// Whether there is one line for each frame of the order, and each shows that its frame passes the written test. `bit`
-/// is the time of a nominal bit in ticks.
+/// Whether there is one line for each frame of the order, and each shows that its frame passes the written
+/// test. `bit` is the time of a nominal bit in ticks.
 fn lines_show(frames: &[Timed], order: &[u32], bit: u64, lines: &[FrameLine]) -> bool
     requires stages { (place : ℕ) → place < length order.now → IsStage frames.now order.now place }
     requires bit { IsBit frames.now bit }
@@ -34,8 +34,9 @@ fn lines_show(frames: &[Timed], order: &[u32], bit: u64, lines: &[FrameLine]) ->
     true
 }
 
-/// Judges the frame lines of a certificate: the load of the grouping in ticks a common period, where the lines show that
-/// each frame passes. The labels group the problem's items, and the order names each of the classes once.
+/// Judges the frame lines of a certificate: the load of the grouping in ticks a common period, where the
+/// lines show that each frame passes. The labels group the problem's items, and the order names each of the
+/// classes once.
 pub(crate) fn judge_timing(
     alloc: Global,
     problem: &Problem,

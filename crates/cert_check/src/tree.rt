@@ -14,7 +14,8 @@ use pack_model::Problem;
 fn take_subtrees(walk: &mut Walk, problem: &Problem, aim: Aim, subtrees: &Vec<Tree>)
     requires { IsWalk problem.now walk.old }
     ensures walks { IsWalk problem.now walk.new }
-    ensures takes { Takes (goal_of problem.now aim) (way_of problem.now walk.old) (way_of problem.now walk.new)
+    ensures takes { Takes (goal_of problem.now aim) (way_of problem.now walk.old)
+        (way_of problem.now walk.new)
         (nodes_of (inner (onto (map plain_of subtrees.now.items) none))) }
 {
     walk.take_inner(problem, aim, subtrees.len());
@@ -28,7 +29,8 @@ fn take_subtrees(walk: &mut Walk, problem: &Problem, aim: Aim, subtrees: &Vec<Tr
 pub(crate) fn take_tree(walk: &mut Walk, problem: &Problem, aim: Aim, tree: &Tree)
     requires { IsWalk problem.now walk.old }
     ensures walks { IsWalk problem.now walk.new }
-    ensures takes { Takes (goal_of problem.now aim) (way_of problem.now walk.old) (way_of problem.now walk.new)
+    ensures takes { Takes (goal_of problem.now aim) (way_of problem.now walk.old)
+        (way_of problem.now walk.new)
         (nodes_of (plain_of tree.now)) }
 {
     if walk.has_failed() {

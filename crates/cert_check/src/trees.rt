@@ -36,8 +36,8 @@ fn lower_with(best: Option<u128>, least: u128) -> u128
     }
 }
 
-/// The least bound at the open leaves of the main tree, in eighths of ticks a common period, where the trees of the
-/// certificate stand.
+/// The least bound at the open leaves of the main tree, in eighths of ticks a common period, where the trees
+/// of the certificate stand.
 fn walk_trees(
     alloc: Global,
     problem: &Problem,
@@ -101,8 +101,8 @@ fn judge_open(
     }
 }
 
-/// Judges the trees of a certificate whose matrix and times hold. `best` is the load of the matrix, in ticks a common
-/// period, if it has rows, as each has of the kinds `timed` and `best`.
+/// Judges the trees of a certificate whose matrix and times hold. `best` is the load of the matrix, in ticks
+/// a common period, if it has rows, as each has of the kinds `timed` and `best`.
 pub(crate) fn judge_trees(
     alloc: Global,
     problem: &Problem,

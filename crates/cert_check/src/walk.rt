@@ -16,7 +16,8 @@ use std::alloc::Global;
 /// What a tree is to show.
 #[derive(Clone, Copy, Debug, PartialEq, Eq)]
 pub struct Aim {
-    /// What the bound at each bound leaf is to reach, in eighths of ticks a common period, if there is a best.
+    /// What the bound at each bound leaf is to reach, in eighths of ticks a common period, if there is a
+    /// best.
     pub value: Option<u128>,
     /// Leaves may be left open.
     pub may_leave: bool,
@@ -32,8 +33,8 @@ fn least_with(least: Option<u128>, bound: u128) -> u128
     }
 }
 
-/// A walk over the nodes of a tree in preorder, which judges each at the place where it stands. Where a node doesn't stand
-/// there the walk fails, and from then on it stays failed.
+/// A walk over the nodes of a tree in preorder, which judges each at the place where it stands. Where a node
+/// doesn't stand there the walk fails, and from then on it stays failed.
 #[derive(Drop)]
 pub struct Walk {
     /// The place of the next node.

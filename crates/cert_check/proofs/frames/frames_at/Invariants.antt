@@ -11,5 +11,6 @@ abbrev pub invariant-loop-label : goal.invariant-loop-label
 invariant-loop-label l = record {
   room : length l.frames ≡ 128;
   value : (problem : Parts) → Belongs problem l.partial → range_of problem l.partial ≡ problem.items
-      → take l.label l.frames ≡ map (λ label. timed_of_items problem (class_of label (labels_of l.partial) problem.items)) (range_with_len 0 l.label);
+      → take l.label l.frames ≡ map (λ label. timed_of_items problem
+      (class_of label (labels_of l.partial) problem.items)) (range_with_len 0 l.label);
 }

@@ -13,12 +13,14 @@ pub overflow_cast-order : goal.overflow_cast-order
 overflow_cast-order c =
     omega (
       arith,
-      few_classes c.args.problem.now c.args.labels.now c.network.ensures.problem (front_of c.args.problem.now.items c.args.labels.now c.requires.grouping),
+      few_classes c.args.problem.now c.args.labels.now c.network.ensures.problem
+          (front_of c.args.problem.now.items c.args.labels.now c.requires.grouping),
       length-order c.args.labels.now c.args.order.now c.requires.order,
     )
 
 pub class_frames-requires-clause-labels : goal.class_frames-requires-clause-labels
-class_frames-requires-clause-labels c = front_of c.args.problem.now.items c.args.labels.now c.requires.grouping
+class_frames-requires-clause-labels c =
+    front_of c.args.problem.now.items c.args.labels.now c.requires.grouping
 
 pub class_frames-requires-clause-classes : goal.class_frames-requires-clause-classes
 class_frames-requires-clause-classes c = length-order c.args.labels.now c.args.order.now c.requires.order
@@ -30,12 +32,14 @@ lines_show-requires-clause-stages c = λ place inside.
 
 pub lines_show-requires-clause-bit : goal.lines_show-requires-clause-bit
 lines_show-requires-clause-bit c =
-    let bit : c.from-bit.result ≡ c.args.problem.now.network.nominal_ticks = c.from-bit.ensures ∙ ap (λ (n : Network). n.nominal_ticks) c.network.ensures.network in
+    let bit : c.from-bit.result ≡ c.args.problem.now.network.nominal_ticks = c.from-bit.ensures
+    ∙ ap (λ (n : Network). n.nominal_ticks) c.network.ensures.network in
     subst (λ (frames : List Timed). IsBit frames c.from-bit.result) (sym c.deref.ensures.value)
     (subst (λ time. IsBit c.in_ok-frames.frames.items time) (sym bit) c.in_ok-frames.ensures.bit)
 
 pub load_of_frames-requires-clause-hyper : goal.load_of_frames-requires-clause-hyper
-load_of_frames-requires-clause-hyper c = omega (arith, c.hyper.ensures.hyper, (tests c.args.problem.now c.hyper.ensures.problem).hyper_high)
+load_of_frames-requires-clause-hyper c =
+    omega (arith, c.hyper.ensures.hyper, (tests c.args.problem.now c.hyper.ensures.problem).hyper_high)
 
 pub load_of_frames-requires-clause-few : goal.load_of_frames-requires-clause-few
 load_of_frames-requires-clause-few c =
@@ -43,8 +47,10 @@ load_of_frames-requires-clause-few c =
       arith,
       ap length c.deref-2.ensures.value,
       c.in_ok-frames.ensures.count,
-      few_classes c.args.problem.now c.args.labels.now c.network.ensures.problem (front_of c.args.problem.now.items c.args.labels.now c.requires.grouping),
+      few_classes c.args.problem.now c.args.labels.now c.network.ensures.problem
+          (front_of c.args.problem.now.items c.args.labels.now c.requires.grouping),
     )
 
 pub load_of_frames-requires-clause-in_range : goal.load_of_frames-requires-clause-in_range
-load_of_frames-requires-clause-in_range c = subst (All IsInRange) (sym c.deref-2.ensures.value) c.in_ok-frames.ensures.in_range
+load_of_frames-requires-clause-in_range c =
+    subst (All IsInRange) (sym c.deref-2.ensures.value) c.in_ok-frames.ensures.in_range

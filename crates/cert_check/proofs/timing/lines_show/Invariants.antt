@@ -6,4 +6,5 @@ use Rattle.cert_check.proofs.timing.lines_show.Given as goal
 
 -- the lines so far show their frames
 abbrev pub invariant-loop-place : goal.invariant-loop-place
-invariant-loop-place l = (k : ℕ) (d : FrameLine) → k < l.place → IsShown l.frames l.order k l.bit (slice_index_or l.lines k d).busy (slice_index_or l.lines k d).queue
+invariant-loop-place l = (k : ℕ) (d : FrameLine) → k < l.place
+    → IsShown l.frames l.order k l.bit (slice_index_or l.lines k d).busy (slice_index_or l.lines k d).queue

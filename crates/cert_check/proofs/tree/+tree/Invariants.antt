@@ -10,5 +10,6 @@ abbrev pub invariant-take_subtrees-loop-subtree : goal.invariant-take_subtrees-l
 invariant-take_subtrees-loop-subtree l = record {
   walks : IsWalk l.problem l.walk;
   takes : Takes (goal_of l.problem l.aim) (way_of l.problem l.fn.walk) (way_of l.problem l.walk)
-      (inner_node (length l.subtree-items) ∷ flat_map (λ t. nodes_of (plain_of t)) (take l.subtree-index l.subtree-items));
+      (inner_node (length l.subtree-items) ∷ flat_map (λ t. nodes_of (plain_of t))
+      (take l.subtree-index l.subtree-items));
 }

@@ -13,7 +13,9 @@ returns-clause-passes c =
       failed = refl;
       least = refl;
       places = passed c.leave.result (places_left items 0 old) (new ∷ places_left items 0 new)
-          (λ went. ap (λ xs. places_left xs 0 old) (sym c.requires.walks.whole) ∙ (c.leave.ensures.next went).1
+          (λ went. ap (λ xs. places_left xs 0 old) (sym c.requires.walks.whole)
+          ∙ (c.leave.ensures.next went).1
           ∙ ap (λ xs. new ∷ places_left xs 0 new) (c.leave.ensures.range ∙ c.requires.walks.whole))
-          (λ went. ap (λ xs. places_left xs 0 old) (sym c.requires.walks.whole) ∙ (c.leave.ensures.none went).1);
+          (λ went. ap (λ xs. places_left xs 0 old) (sym c.requires.walks.whole)
+          ∙ (c.leave.ensures.none went).1);
     }

@@ -8,16 +8,22 @@ use Rattle.cert_check.proofs.walk.Walk.take_inner.Goals as goal
 
 pub returns-then-not-inner_stands-clause-takes : goal.returns-then-not-inner_stands-clause-takes
 returns-then-not-inner_stands-clause-takes c =
-    node_fails c.args.problem.now c.args.aim c.args.self.now (record c.args.self.now { failed = true }) (inner_node c.args.subtrees)
-    (denied c.inner_stands.result (StandsNext c.args.problem.now c.args.aim c.args.self.now (inner_node c.args.subtrees)) c.if-not-inner_stands.true c.inner_stands.ensures) refl
+    node_fails c.args.problem.now c.args.aim c.args.self.now (record c.args.self.now { failed = true })
+    (inner_node c.args.subtrees)
+    (denied c.inner_stands.result
+    (StandsNext c.args.problem.now c.args.aim c.args.self.now (inner_node c.args.subtrees))
+    c.if-not-inner_stands.true c.inner_stands.ensures) refl
 
 pub returns-clause-takes : goal.returns-clause-takes
 returns-clause-takes c =
     let here : StandsNext c.args.problem.now c.args.aim c.args.self.now (inner_node c.args.subtrees) =
-    said c.inner_stands.result (StandsNext c.args.problem.now c.args.aim c.args.self.now (inner_node c.args.subtrees)) c.if-not-inner_stands.false c.inner_stands.ensures in
+    said c.inner_stands.result
+    (StandsNext c.args.problem.now c.args.aim c.args.self.now (inner_node c.args.subtrees))
+    c.if-not-inner_stands.false c.inner_stands.ensures in
     let old : List ℕ = labels_of c.args.self.now.partial in
     let new : List ℕ = labels_of c.enter.new.self in
-    node_taken c.args.problem.now c.args.aim c.args.self.now (record c.args.self.now { partial = c.enter.new.self }) (inner_node c.args.subtrees) here refl
+    node_taken c.args.problem.now c.args.aim c.args.self.now
+    (record c.args.self.now { partial = c.enter.new.self }) (inner_node c.args.subtrees) here refl
     (ap (λ over. cond over [] (new ∷ places_left c.args.problem.now.items 0 new)) here.0.1
     ∙ ap (λ items. new ∷ places_left items 0 new) (sym (c.enter.ensures.range ∙ c.requires.whole))
     ∙ c.enter.ensures.places 0 (omega arith)
