@@ -6,4 +6,6 @@ pub mod Accepted
 pub mod Runs
 pub mod Said
 pub mod CommandLaws
+pub mod Made
+pub mod MakeLaws
 pub mod SteadyLaws

@@ -9,5 +9,6 @@ pub mod Meaning
 pub mod Verdict
 pub mod Check
 pub mod Plan
+pub mod Make
 pub mod Commands
 pub mod Answer
