@@ -73,7 +73,11 @@ fn files_after_a_case(rt: HostRuntime) -> Result<(), Fail> {
             "run {number}"
         );
         assert_eq!(rt; folder.get("n.json"), *network, "run {number}");
-        assert_eq!(rt; begins(&folder, "s.csv", FIRST_LINES), *whole, "run {number}");
+        assert_eq!(rt;
+            begins(&folder, "s.csv", FIRST_LINES),
+            *whole,
+            "run {number}"
+        );
         assert_eq!(rt; out.said(), *said, "run {number}");
     }
     Ok(())
