@@ -195,7 +195,7 @@ module _ {F : Type 0} {files : F → Files} {read_faults write_faults given_byte
   }
 
   -- a command that ran with equal names
-  pub renamed : (meaning : Names → Meaning) (names same : Names) (result : Result GivenAnswer Halt)
+  pub renamed : {N : Type 0} (meaning : N → Meaning) (names same : N) (result : Result GivenAnswer Halt)
       → names ≡ same
       → Runs (meaning names) files read_faults write_faults given_bytes old new result → Runs
       (meaning same) files read_faults write_faults given_bytes old new result
