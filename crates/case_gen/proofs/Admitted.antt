@@ -20,8 +20,9 @@ use Rattle.case_gen.specs.declared.generate.Case.{Case}
 use Rattle.pack_model.proofs.Classes.{All-distinct}
 use Rattle.pack_model.proofs.Distinct.{length-distinct}
 use Rattle.pack_model.proofs.Periods.{common_period_of}
-use Rattle.pack_model.proofs.PlacedLaws.{IsPlaced, all_placed, same_item_equivalence}
+use Rattle.pack_model.proofs.PlacedLaws.{IsPlaced, all_placed}
 use Rattle.pack_model.proofs.ProblemSteps.{IsAdmitted, problem_stands}
+use Rattle.pack_model.proofs.SameItem.{same_item_equivalence}
 use Rattle.case_gen.specs.Draws.{drawn, next_state, state_after}
 use Rattle.case_gen.specs.Generated.{Start, CaseStands, parts_of_case, case_network, case_of, count_of, senders_of, signal_of, signals_of, signals_of_senders, start_of}
 use Rattle.case_gen.proofs.Cases.{IsMade, case_network_stands, each_drawn, made, signals_stand}
