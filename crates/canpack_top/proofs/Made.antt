@@ -9,7 +9,8 @@ use Rattle.canpack_top.specs.Make.{CasePartWritten, CaseWritten, HasCase, case_n
 use Rattle.canpack_top.specs.Meaning.{Runs, seen}
 use Rattle.canpack_top.specs.Reads.{SomeRose}
 
-module _ {F : Type 0} {files : F → Files} {read_faults write_faults given_bytes : F → List ℕ → ℕ} {old new : F} where
+module _ {F : Type 0} {files : F → Files} {read_faults write_faults given_bytes : F → List ℕ
+    → ℕ} {old new : F} where
   -- what is written of a case is what `make` means
   pub made : (number : ℕ) (names : CaseNames) (result : Result GivenAnswer Halt)
       → IfOk result (λ answer. seen answer ≡ make_answer number)

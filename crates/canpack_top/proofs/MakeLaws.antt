@@ -12,16 +12,19 @@ use Rattle.canpack_top.specs.Meaning.{Ends, Finishes}
 use Rattle.canpack_top.specs.Reads.{SomeRose}
 use Rattle.canpack_top.proofs.CommandLaws.{Called, of_words, refused_text}
 
-module _ {words : List (String Global)} {before now : Files} {said_before said_now : Option (List ℕ)} {number : ℕ}
+module _ {words : List (String Global)} {before now : Files} {said_before said_now : Option
+    (List ℕ)} {number : ℕ}
     (called : Called words before now said_before said_now number) (case : ℕ) (make : IsMake case words) where
   -- its answer is its own, where it isn't a refusal
   own_answer : (answered : IsAnswered number) → (number ≡ 4 → ⊥)
       → Finishes (make_meaning case (case_names_in words)) before now (called.answered answered).0
   own_answer answered other =
       let answer = (called.answered answered).0 in
-      elim (of_words words (command.MakeFiles case) (λ m. Ends m before now answer) make (called.answered answered).2) [
+      elim (of_words words (command.MakeFiles case) (λ m. Ends m before now answer) make
+          (called.answered answered).2) [
         | inl finishes ↦ finishes
-        | inr refuses ↦ absurd (other ((called.answered answered).1 ∙ ap (λ a. number_of a.status) refuses.is))
+        | inr refuses ↦ absurd (other
+            ((called.answered answered).1 ∙ ap (λ a. number_of a.status) refuses.is))
       ]
 
   -- it has written the case at status 0
@@ -55,17 +58,20 @@ module _ {words : List (String Global)} {before now : Files} {said_before said_n
 
   -- it is done, or a write or saying failed, or memory ran out
   pub make_done : (faults_before faults_now : List ℕ → ℕ)
-      → (number ≡ 2 → OfCommand words (λ meaning. SomeRose meaning.reads faults_before faults_now)) → IsSome before
+      → (number ≡ 2 → OfCommand words (λ meaning. SomeRose meaning.reads faults_before faults_now))
+          → IsSome before
       → (number ≡ 0) ⊎ (number ≡ 3) ⊎ (number ≡ 6) ⊎ (number ≡ 7)
   make_done faults_before faults_now read told = elim called.statuses [
     | inl one ↦ absurd (true≢false (sym (ap is_some make) ∙ called.usage one))
     | inr rest ↦ elim rest [
       | inl answered ↦ elim answered [
         | inl zero ↦ inl zero
-        | inr more ↦ elim more [ inl four ↦ absurd (not_refused told four) | inr five ↦ absurd (not_rejected five) ]
+        | inr more ↦ elim more [ inl four ↦ absurd (not_refused told four) | inr five ↦ absurd
+            (not_rejected five) ]
       ]
       | inr excused ↦ elim excused [
-        | inl two ↦ absurd (of_words words (command.MakeFiles case) (λ m. SomeRose m.reads faults_before faults_now) make (read two))
+        | inl two ↦ absurd (of_words words (command.MakeFiles case)
+            (λ m. SomeRose m.reads faults_before faults_now) make (read two))
         | inr others ↦ inr others
       ]
     ]
