@@ -50,9 +50,11 @@ numbered-map : (f : ℕ → Signal) (first j n : ℕ) → ((k : ℕ) → (f k).n
     → Numbered (first + j) (map f (range_with_len j n))
 numbered-map f first j zero each = tt
 numbered-map f first j (suc n) each =
-    let next : first + (j + 1) ≡ first + j + 1 = omega arith in
-    (each j, subst (λ m. Numbered m (map f (range_with_len (j + 1) n))) next
-        (numbered-map f first (j + 1) n each))
+    let next : first + (j + 1) ≡ first + j + 1 = omega arith in (
+      each j,
+      subst (λ m. Numbered m (map f (range_with_len (j + 1) n))) next
+          (numbered-map f first (j + 1) n each),
+    )
 
 -- the signals of a case are numbered from 1 on
 numbered : (number senders : ℕ) → Numbered 1 (signals_of_senders number senders)
@@ -61,10 +63,10 @@ numbered number (suc place) =
     let start : Start = start_of number place in
     let before : IsMade number place (signals_of_senders number place) start.state = made number place in
     let f : ℕ → Signal =
-        λ k. signal_of (place + 1) (start.first + k) (state_after (next_state start.state) (2 * k)) in
+    λ k. signal_of (place + 1) (start.first + k) (state_after (next_state start.state) (2 * k)) in
     let at : start.first + 0 ≡ 1 + length (signals_of_senders number place) = omega (arith, before.first) in
     numbered-append 1 (signals_of_senders number place) (signals_of (place + 1) start.first start.state)
-        (numbered number place)
+    (numbered number place)
     (subst (λ n. Numbered n (signals_of (place + 1) start.first start.state)) at
     (numbered-map f start.first 0 (count_of start.state) (λ k. refl)))
 
@@ -77,8 +79,8 @@ names_apart : (m n : ℕ) → m < n → n < 2 ^ 64 → bytes_eq (signal_name n) 
 names_apart m n below small = false_from_ne_true (bytes_eq (signal_name n) (signal_name m)) (λ same.
     let one : signal_name n ≡ signal_name m = (bytes_eq-Decides (signal_name n) (signal_name m)).0 same in
     let number : n ≡ m =
-        decimal_injective n m small (omega arith)
-        (append_cancel_left (codes "S") (decimal n) (decimal m) one) in
+    decimal_injective n m small (omega arith)
+    (append_cancel_left (codes "S") (decimal n) (decimal m) one) in
     omega arith)
 
 -- numbered names have no repeat
@@ -90,14 +92,14 @@ no_repeat earlier first (s ∷ ss) small all named =
     list_any_none (bytes_eq s.name) earlier (λ k d inside.
     let one : IsEarlier first (get_or earlier k d) = all k d inside in
     ap (λ n. bytes_eq n (get_or earlier k d)) named.0 ∙ ap (bytes_eq (signal_name first)) one.2
-        ∙ names_apart one.0 first one.1 (omega arith)) in
+    ∙ names_apart one.0 first one.1 (omega arith)) in
     let before : All (IsEarlier (first + 1)) earlier = λ k d inside.
     let one : IsEarlier first (get_or earlier k d) = all k d inside in (one.0, omega (arith, one.1), one.2) in
     let here : IsEarlier (first + 1) s.name = (first, omega arith, named.0) in
     ap (λ b. if b then Some (length earlier) else first_repeat (earlier ++ s.name ∷ []) (names_of ss)) absent
     ∙ no_repeat (earlier ++ s.name ∷ []) (first + 1) ss (omega arith)
     (All-append (IsEarlier (first + 1)) earlier (s.name ∷ []) before
-        (All-cons (IsEarlier (first + 1)) s.name [] here (All-nil (IsEarlier (first + 1))))) named.1
+    (All-cons (IsEarlier (first + 1)) s.name [] here (All-nil (IsEarlier (first + 1))))) named.1
 
 -- the signal is free
 abbrev IsFree : Signal → Type 0
@@ -110,7 +112,7 @@ no_clash earlier (s ∷ ss) free =
     let absent : list_any (is_clash s) earlier ≡ false =
     list_any_none (is_clash s) earlier (λ k d inside.
     ap (λ o. same_pdu o (get_or earlier k d).pdu && not (bytes_eq s.sender (get_or earlier k d).sender))
-        (All-head IsFree s ss free)) in
+    (All-head IsFree s ss free)) in
     ap (λ b. if b then Some (length earlier) else first_clash (earlier ++ s ∷ []) ss) absent
     ∙ no_clash (earlier ++ s ∷ []) ss (All-tail IsFree s ss free)
 
@@ -119,7 +121,7 @@ find_none : {X : Type 0} (p : X → Bool) (xs : List X) → All (λ x. p x ≡ f
 find_none p [] none = refl
 find_none p (x ∷ xs) none =
     ap (λ b. cond b (Some x) (find p xs)) (All-head (λ x. p x ≡ false) x xs none)
-        ∙ find_none p xs (All-tail (λ x. p x ≡ false) x xs none)
+    ∙ find_none p xs (All-tail (λ x. p x ≡ false) x xs none)
 
 -- no item of free signals is an I-PDU that is too large
 no_large : (signals : List Signal) → All IsFree signals → find is_too_large (items_in_order signals) ≡ None
@@ -127,7 +129,7 @@ no_large signals free =
     let each : All (λ (e : ℕ × Signal). e.1.pdu ≡ None) (placed signals) = λ k d inside.
     let one : IsPlaced signals (get_or (placed signals) k d) = all_placed signals k d inside in
     subst IsFree (sym one.at)
-        (free (get_or (placed signals) k d).0 (get_or (placed signals) k d).1 one.within) in
+    (free (get_or (placed signals) k d).0 (get_or (placed signals) k d).1 one.within) in
     find_none is_too_large (items_in_order signals)
     (All-map (λ item. is_too_large item ≡ false) (item_of signals) (firsts_of signals)
     (λ k d inside.
@@ -138,9 +140,9 @@ no_large signals free =
 few_items : (signals : List Signal) → length (items_in_order signals) ≤ length signals
 few_items signals =
     let items : length (items_in_order signals) ≡ length (firsts_of signals) =
-        length-map (firsts_of signals) (item_of signals) in
+    length-map (firsts_of signals) (item_of signals) in
     let firsts : length (firsts_of signals) ≤ length (placed signals) =
-        length-distinct same_item same_item_equivalence (placed signals) in
+    length-distinct same_item same_item_equivalence (placed signals) in
     let all : length (placed signals) ≡ length signals = length-enumerate_from 0 signals in
     omega arith
 
@@ -160,7 +162,7 @@ some_signals number (suc place) some =
     let start : Start = start_of number place in
     let before : IsMade number place (signals_of_senders number place) start.state = made number place in
     let after : IsMade number (suc place) (signals_of_senders number (suc place))
-        (start_of number (suc place)).state = made number (suc place) in
+    (start_of number (suc place)).state = made number (suc place) in
     omega (arith, before.first, after.first)
 
 -- the senders are at most 4
@@ -173,7 +175,7 @@ few_senders number =
 pub few_signals : (number : ℕ) → length (signals_of_senders number (senders_of number)) ≤ 32
 few_signals number =
     let it : IsMade number (senders_of number) (signals_of_senders number (senders_of number))
-        (start_of number (senders_of number)).state = made number (senders_of number) in
+    (start_of number (senders_of number)).state = made number (senders_of number) in
     omega (arith, it.few, few_senders number)
 
 -- the common period of a case is at most 8000000 ticks
@@ -185,10 +187,10 @@ short_period number =
     common_period_of case_network signals case_network_stands (signals_stand number (senders_of number)) in
     common.least 8000000 (omega arith)
     (All-map (λ period. 8000000 % period ≡ 0)
-        (λ (signal : Signal). case_network.ticks_per_us * signal.period_us) signals
+    (λ (signal : Signal). case_network.ticks_per_us * signal.period_us) signals
     (each_drawn (λ signal. 8000000 % (80 * signal.period_us) ≡ 0)
     (λ sender place state. period_divides (drawn 4 (next_state state))
-        (mod-lt (next_state (next_state state) / 65536) {m = 4} (omega arith)))
+    (mod-lt (next_state (next_state state) / 65536) {m = 4} (omega arith)))
     number (senders_of number)))
 
 -- no case is refused
@@ -197,7 +199,7 @@ case_stands number =
     let signals : List Signal = (case_of number).signals in
     let few : length signals ≤ 32 = few_signals number in
     let free : All IsFree signals =
-        each_drawn IsFree (λ sender place state. refl) number (senders_of number) in
+    each_drawn IsFree (λ sender place state. refl) number (senders_of number) in
     let admitted : IsAdmitted signals = record {
       some = some_signals number (senders_of number) (omega arith);
       few = omega arith;
@@ -230,7 +232,7 @@ meant : (number : ℕ) (case : Case) (signals : List Signal) → case ≡ case_o
     → problem_of case.network signals ≡ Ok (parts_of_case number)
 meant number case signals is same =
     ap (problem_of case.network) same ∙ ap (λ (c : Case). problem_of c.network c.signals) is
-        ∙ (case_stands number).problem
+    ∙ (case_stands number).problem
 
 -- of a case only want of memory comes
 pub only_memory : (number : ℕ) (why : ProblemFault) (case : Case) (signals : List Signal)
@@ -245,4 +247,4 @@ pub answered : (number : ℕ) (problem : Parts) (case : Case) (signals : List Si
     → Answers (Ok problem) (problem_of case.network signals) → problem ≡ parts_of_case number
 answered number problem case signals is same answers =
     let is_it : problem_of case.network signals ≡ Ok (parts_of_case number) =
-        meant number case signals is same in cc
+    meant number case signals is same in cc
