@@ -170,7 +170,8 @@ module _ (Right : Item → Type 0) (cost slack : List Item → ℕ) (price : Ite
       where
         other : (k : ℕ) (d : Item) → k < length ys → x.sender ≡ (get_or ys k d).sender
         other k d lt =
-            stands.one_sender 0 (length (x ∷ xs) + k) d (omega arith) (omega (arith, length-append (x ∷ xs) ys))
+            stands.one_sender 0 (length (x ∷ xs) + k) d (omega arith)
+            (omega (arith, length-append (x ∷ xs) ys))
             ∙ ap (λ (item : Item). item.sender) (get_or-append-add (x ∷ xs) ys k d)
 
         by : (b : Bool) → nat_eq x.sender s ≡ b

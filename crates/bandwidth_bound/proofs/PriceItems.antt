@@ -15,6 +15,7 @@ use Rattle.bandwidth_bound.proofs.PriceFloors.{AreAllApart, IsFloor, item_at, jo
 abbrev pub before : ℕ → List Item → List Item
 before first items = filter (λ item. nat_lt item.sender first) items
 
+-- the items are all of senders before one
 abbrev pub AreBefore : ℕ → List Item → Type 0
 AreBefore first items = All (λ item. item.sender < first) items
 
@@ -79,10 +80,12 @@ sent_none first s (y ∷ ys) all le =
 
 -- items that rise by sender
 
+-- what rises from a number rises from a lower one
 pub lower : (low a : ℕ) (ys : List Item) → low ≤ a → Rises a ys → Rises low ys
 lower low a [] le up = tt
 lower low a (y ∷ ys) le up = (let first : a ≤ y.sender = up.0 in omega (arith, le, first), up.1)
 
+-- the items of a sender rise
 pub rises_sent : (low s : ℕ) (ys : List Item) → Rises low ys → Rises low (sent_by ys s)
 rises_sent low s [] up = tt
 rises_sent low s (y ∷ ys) up = by (nat_eq y.sender s) (rises_sent y.sender s ys up.1)
@@ -91,6 +94,7 @@ rises_sent low s (y ∷ ys) up = by (nat_eq y.sender s) (rises_sent y.sender s y
     by true ih = (up.0, ih)
     by false ih = lower low y.sender (sent_by ys s) up.0 ih
 
+-- none is before the least sender
 pub before_none : (n low : ℕ) (ys : List Item) → n ≤ low → Rises low ys → before n ys ≡ []
 before_none n low [] le up = refl
 before_none n low (y ∷ ys) le up =
@@ -98,6 +102,7 @@ before_none n low (y ∷ ys) le up =
     let high : n ≤ y.sender = omega (arith, le, first) in
     rw (le-ltb y.sender n high) (before_none n y.sender ys high up.1)
 
+-- before the sender after the least are those of the least
 pub before_one : (n low : ℕ) (ys : List Item) → n ≤ low → Rises low ys → before (n + 1) ys ≡ sent_by ys n
 before_one n low [] le up = refl
 before_one n low (y ∷ ys) le up = by (cases_eq y.sender n) (before_one n y.sender ys high up.1)
@@ -113,7 +118,8 @@ before_one n low (y ∷ ys) le up = by (cases_eq y.sender n) (before_one n y.sen
     by (inr ne) ih = rw (le-ltb y.sender (n + 1) (omega (arith, ne, high)), ne_eqb y.sender n ne) ih
 
 -- before the next sender are those before one, and then its own
-pub before_more : (n low : ℕ) (ys : List Item) → Rises low ys → before (n + 1) ys ≡ before n ys ++ sent_by ys n
+pub before_more : (n low : ℕ) (ys : List Item) → Rises low ys
+    → before (n + 1) ys ≡ before n ys ++ sent_by ys n
 before_more n low [] up = refl
 before_more n low (y ∷ ys) up = by (cases_lt y.sender n) (before_more n y.sender ys up.1)
   where
@@ -130,12 +136,14 @@ before_more n low (y ∷ ys) up = by (cases_lt y.sender n) (before_more n y.send
         before_one n n (y ∷ ys) (omega arith) all
         ∙ ap (λ zs. zs ++ sent_by (y ∷ ys) n) (sym (before_none n n (y ∷ ys) (omega arith) all))
 
+-- items of senders before one are all before it
 pub before_all : (n : ℕ) (ys : List Item) → AreBefore n ys → before n ys ≡ ys
 before_all n [] all = refl
 before_all n (y ∷ ys) all =
     rw (lt-ltb y.sender n (All-head (λ item. item.sender < n) y ys all))
     (ap (λ (zs : List Item). y ∷ zs) (before_all n ys (All-tail (λ item. item.sender < n) y ys all)))
 
+-- and those before it are of senders before it
 pub are_before : (n : ℕ) (ys : List Item) → AreBefore n (before n ys)
 are_before n [] = All-nil (λ item. item.sender < n)
 are_before n (y ∷ ys) = by (cases_lt y.sender n) (are_before n ys)
@@ -169,6 +177,7 @@ groups_apart ys now a (suc m) all = (
       (sent_by ys a) (sent_is a ys))),
 )
 
+-- a figure that is at most the cost of each sender is a floor of them
 pub groups_floor : (cost floor : List Item → ℕ) (ys : List Item)
     → ((s : ℕ) (q : List ℕ) → IsLegal (sent_by ys s) q
     → floor (sent_by ys s) ≤ over_classes cost (sent_by ys s) q)
@@ -176,6 +185,7 @@ pub groups_floor : (cost floor : List Item → ℕ) (ys : List Item)
 groups_floor cost floor ys each a zero = tt
 groups_floor cost floor ys each a (suc m) = (each a, groups_floor cost floor ys each (a + 1) m)
 
+-- a sum over the items of each sender
 pub sum_groups : (floor : List Item → ℕ) (g : ℕ → List Item) (xs : List ℕ)
     → sum_by floor (map g xs) ≡ sum_by (λ x. floor (g x)) xs
 sum_groups floor g [] = refl
@@ -189,6 +199,7 @@ sum_groups floor g (x ∷ xs) =
 
 -- the items placed, and those left
 
+-- items placed are before the next sender
 pub placed_before : (low : ℕ) (xs ys : List Item) → Rises low (xs ++ ys)
     → AreBefore (next_sender (last_sender xs)) xs
 placed_before low [] ys up = All-nil (λ item. item.sender < 0)
@@ -202,12 +213,14 @@ placed_before low (x ∷ y ∷ xs) ys up =
     let first : x.sender ≤ y.sender = up.1.0 in
     All-cons (λ item. item.sender < n) x (y ∷ xs) (omega (arith, here, first)) all
 
+-- they come first among those before it
 pub before_front : (n : ℕ) (xs ys : List Item) → AreBefore n xs → before n (xs ++ ys) ≡ xs ++ before n ys
 before_front n [] ys all = refl
 before_front n (x ∷ xs) ys all =
     rw (lt-ltb x.sender n (All-head (λ item. item.sender < n) x xs all))
     (ap (λ (zs : List Item). x ∷ zs) (before_front n xs ys (All-tail (λ item. item.sender < n) x xs all)))
 
+-- what is left after a front
 pub drop_front : (xs ys : List Item) → drop (length xs) (xs ++ ys) ≡ ys
 drop_front [] [] = refl
 drop_front [] (y ∷ ys) = refl
@@ -239,10 +252,12 @@ sum_sent f s (y ∷ ys) = by (cases_eq y.sender s) (cases_lt y.sender (s + 1)) (
         (omega (arith, sum_by-cons (item_at s f) y (before (s + 1) ys), here, ih))
     by (inr ne) (inr ge) ih = rw (le-ltb y.sender (s + 1) ge, ne_eqb y.sender s ne) ih
 
+-- a sum of eighths
 pub sum_eight : (f : ℕ → ℕ) (xs : List ℕ) → sum_by (λ x. 8 * f x) xs ≡ 8 * sum_by f xs
 sum_eight f [] = refl
 sum_eight f (x ∷ xs) = omega (arith, sum_by-cons (λ x. 8 * f x) x xs, sum_by-cons f x xs, sum_eight f xs)
 
+-- a sum of zeros from a number on
 pub sum_none : (f : ℕ → ℕ) (first a m : ℕ) → first ≤ a → ((k : ℕ) → first ≤ k → f k ≡ 0)
     → sum_by f (range_with_len a m) ≡ 0
 sum_none f first a zero le each = refl

@@ -18,6 +18,7 @@ abbrev pub AreApart : List Item → List Item → Type 0
 AreApart xs ys = (i j : ℕ) (d : Item) → i < length xs → j < length ys
     → (get_or xs i d).sender ≢ (get_or ys j d).sender
 
+-- the class of a label in two lists of items is that of the one and then that of the other
 pub class-both : {X : Type 0} (k : ℕ) (p r : List ℕ) (xs ys : List X) → length p ≡ length xs
     → class_of k (p ++ r) (xs ++ ys) ≡ class_of k p xs ++ class_of k r ys
 class-both k [] r [] ys e = refl
@@ -55,6 +56,7 @@ in-class k (l ∷ p) (x ∷ xs) (suc i) e lt is =
     by true ih = (suc ih.0, omega (arith, ih.1), λ d. ih.2 d)
     by false ih = (ih.0, ih.1, λ d. ih.2 d)
 
+-- the number of classes of two lists of labels is the greater
 pub classes-append : (p r : List ℕ) → classes_of (p ++ r) ≡ max (classes_of p) (classes_of r)
 classes-append [] r = omega arith
 classes-append (l ∷ p) r = omega (arith, classes-append p r)
@@ -103,6 +105,7 @@ take-both (l ∷ p) k r =
     let e : length (l ∷ p) + k ≡ suc (length p + k) = omega arith in
     ap (λ n. take n (l ∷ (p ++ r))) e ∙ ap (λ (t : List ℕ). l ∷ t) (take-both p k r)
 
+-- numbers in order, cut in two
 pub range-split : (a n m : ℕ)
     → range_with_len a (n + m) ≡ range_with_len a n ++ range_with_len (a + n) m
 range-split a zero m =
@@ -116,6 +119,7 @@ range-split a (suc n) m =
     ∙ ap (λ (t : List ℕ). a ∷ t)
     (range-split (a + 1) n m ∙ ap (λ b. range_with_len (a + 1) n ++ range_with_len b m) f)
 
+-- a sum over numbers from another start
 pub sum-shift : (g h : ℕ → ℕ) (a b n : ℕ) → ((k : ℕ) → k < n → g (a + k) ≡ h (b + k))
     → sum_by g (range_with_len a n) ≡ sum_by h (range_with_len b n)
 sum-shift g h a b zero e = refl
