@@ -201,11 +201,12 @@ module _ {words : List (String Global)} {before now : Files} {said_before said_n
 
   -- the line of the verdict was said then, and what it promises holds
   pub check_headline : number ≡ 0 → IsSome before → IsCheck words → Headline (names_in words) before said_before said_now
+  unfolding own_of
   check_headline zero told check =
       let all : Answered number words before now said_before said_now = called.answered (inl zero) in
       let has_status : all.0.status ≡ status.Done = done_number all.0.status (sym zero ∙ all.1) in
       let own : Finishes (check_meaning (names_in words)) before now all.0 =
-          (own_of words before now (command.CheckFiles check.0) status.Done all.0 check.1 has_status (λ h. cc) all.2).finishes in
+      (own_of words before now (command.CheckFiles check.0) status.Done all.0 check.1 has_status (λ h. cc) all.2).finishes in
       ok_and_both (texts_at (names_in words) before) (λ judged. IsAnswerOf all.0 judged) Holds _
       (λ judged answers holds. promised_line all.0 judged said_before said_now answers.0 has_status answers.1 answers.2 all.3 holds)
       (own.answers told) (own.shows told has_status)

@@ -21,7 +21,7 @@ module _ {words : List (String Global)} {before now : Files} {said_before said_n
   own_answer answered other =
       let answer = (called.answered answered).0 in
       elim (of_words words (command.MakeFiles case) (λ m. Ends m before now answer) make
-          (called.answered answered).2) [
+      (called.answered answered).2) [
         | inl finishes ↦ finishes
         | inr refuses ↦ absurd (other
             ((called.answered answered).1 ∙ ap (λ a. number_of a.status) refuses.is))
@@ -59,15 +59,18 @@ module _ {words : List (String Global)} {before now : Files} {said_before said_n
   -- it is done, or a write or saying failed, or memory ran out
   pub make_done : (faults_before faults_now : List ℕ → ℕ)
       → (number ≡ 2 → OfCommand words (λ meaning. SomeRose meaning.reads faults_before faults_now))
-          → IsSome before
+      → IsSome before
       → (number ≡ 0) ⊎ (number ≡ 3) ⊎ (number ≡ 6) ⊎ (number ≡ 7)
   make_done faults_before faults_now read told = elim called.statuses [
     | inl one ↦ absurd (true≢false (sym (ap is_some make) ∙ called.usage one))
     | inr rest ↦ elim rest [
       | inl answered ↦ elim answered [
         | inl zero ↦ inl zero
-        | inr more ↦ elim more [ inl four ↦ absurd (not_refused told four) | inr five ↦ absurd
-            (not_rejected five) ]
+        | inr more ↦ elim more [
+          | inl four ↦ absurd (not_refused told four)
+          | inr five ↦ absurd
+              (not_rejected five)
+        ]
       ]
       | inr excused ↦ elim excused [
         | inl two ↦ absurd (of_words words (command.MakeFiles case)

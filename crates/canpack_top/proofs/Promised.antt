@@ -37,15 +37,17 @@ promised judged verdict.Placed accepts holds = holds.one_place (subst (λ kind. 
 promised judged (verdict.Timed load) accepts holds =
     in_time judged load holds (subst (λ kind. HasMatrix kind judged.matrix) (sym accepts.of_kind.0) tt)
     (subst (λ kind. HasTiming kind judged.matrix) (sym accepts.of_kind.0) tt) accepts.of_kind.1
-promised judged (verdict.Best load) accepts holds =
-    (in_time judged load holds (subst (λ kind. HasMatrix kind judged.matrix) (sym accepts.of_kind.0) tt)
-    (subst (λ kind. HasTiming kind judged.matrix) (sym accepts.of_kind.0) tt) accepts.of_kind.1,
-    subst (NoneIsBetter judged.problem) (sym accepts.of_kind.1) (holds.best accepts.of_kind.0))
+promised judged (verdict.Best load) accepts holds = (
+  in_time judged load holds (subst (λ kind. HasMatrix kind judged.matrix) (sym accepts.of_kind.0) tt)
+      (subst (λ kind. HasTiming kind judged.matrix) (sym accepts.of_kind.0) tt) accepts.of_kind.1,
+  subst (NoneIsBetter judged.problem) (sym accepts.of_kind.1) (holds.best accepts.of_kind.0),
+)
 promised judged verdict.NoSolution accepts holds = holds.no_solution accepts.of_kind
 promised judged (verdict.Between None lower) accepts holds =
     subst (EachReaches judged.problem) (sym accepts.of_kind.2) (holds.between accepts.of_kind.0)
 promised judged (verdict.Between (Some best) lower) accepts holds =
-    let parts : HasMatrix KindBetween judged.matrix × HasTiming KindBetween judged.matrix = open_parts judged.problem judged.matrix best accepts.of_kind.1 in
-    (in_time judged best holds (subst (λ kind. HasMatrix kind judged.matrix) (sym accepts.of_kind.0) parts.0)
-    (subst (λ kind. HasTiming kind judged.matrix) (sym accepts.of_kind.0) parts.1) (open_load judged judged.matrix refl best accepts.of_kind.1),
-    subst (EachReaches judged.problem) (sym accepts.of_kind.2) (holds.between accepts.of_kind.0))
+    let parts : HasMatrix KindBetween judged.matrix × HasTiming KindBetween judged.matrix = open_parts judged.problem judged.matrix best accepts.of_kind.1 in (
+      in_time judged best holds (subst (λ kind. HasMatrix kind judged.matrix) (sym accepts.of_kind.0) parts.0)
+          (subst (λ kind. HasTiming kind judged.matrix) (sym accepts.of_kind.0) parts.1) (open_load judged judged.matrix refl best accepts.of_kind.1),
+      subst (EachReaches judged.problem) (sym accepts.of_kind.2) (holds.between accepts.of_kind.0),
+    )

@@ -27,14 +27,14 @@ module _ (problem : Parts) (rows : List MatrixRow) (order : List ℕ) (lines : L
   abbrev ShowEach : List Timed → List ℕ → Type 0
   ShowEach frames order = (place : ℕ) (d : FrameLine) → place < length lines
       → IsShown frames order place problem.network.nominal_ticks (get_or lines place d).busy
-          (get_or lines place d).queue
+      (get_or lines place d).queue
 
   -- least lines do where each frame passes
   show_each : AreLeastLines (frames_alone problem) order problem.network.nominal_ticks lines → OrderPasses
       (frames_alone problem) problem.network.nominal_ticks order → ShowEach (frames_alone problem) order
   show_each least passes place d inside =
       least_shows (frames_alone problem) order problem.network.nominal_ticks place (get_or lines place d)
-          (least.each place d inside)
+      (least.each place d inside)
       (passes.passes place (omega (arith, inside, least.count)))
 
   -- the certificate with these lines is accepted
@@ -44,17 +44,17 @@ module _ (problem : Parts) (rows : List MatrixRow) (order : List ℕ) (lines : L
       → OrderPasses (frames_alone problem) problem.network.nominal_ticks order
       → (cert : CertParts) → cert ≡ timed_parts lines
       → Accepts (record { problem = problem; matrix = rows; cert = cert })
-          (verdict.Timed (load_alone problem))
+      (verdict.Timed (load_alone problem))
   timed_accepted placed grouping named least passes cert is =
       subst (λ (c : CertParts). Accepts (record { problem = problem; matrix = rows; cert = c })
-          (verdict.Timed (load_alone problem))) (sym is) (record {
+      (verdict.Timed (load_alone problem))) (sym is) (record {
         rule = record {
           matrix = placed;
           timing = record {
             count = least.count ∙ sym (ap length named);
             each =
                 subst (λ labels. ShowEach (frames_of_classes problem problem.items labels)
-                    (order_of problem rows)) (sym grouping)
+                (order_of problem rows)) (sym grouping)
                 (subst (ShowEach (frames_alone problem)) (sym named) (show_each least passes));
           };
           tree = tt;
@@ -84,5 +84,9 @@ module _ (problem : Parts) (rows : List MatrixRow) (order : List ℕ) (lines : L
 
   -- and has a text
   pub timed_fits : All HasRoom lines → (cert : CertParts) → cert ≡ timed_parts lines → CertFits cert
-  timed_fits room cert is = subst CertFits (sym is) (record { frames = room; lemmas =
-      All-nil LemmaFits; main = tt })
+  timed_fits room cert is = subst CertFits (sym is) (record {
+    frames = room;
+    lemmas =
+        All-nil LemmaFits;
+    main = tt;
+  })

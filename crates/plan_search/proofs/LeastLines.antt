@@ -38,11 +38,16 @@ module _ (frames : List Timed) (order : List ℕ) (bit place : ℕ) (line : Fram
     can_start = λ instance inside. (least.starts instance inside).holds;
     in_time = λ instance inside.
         let it : InstancePasses (own_of frames order place) (queueing_of frames order place bit) instance =
-        passes.each instance (omega (arith, inside, least.count, ap
-            (instances_of (own_of frames order place)) (same_busy passes))) in
+        passes.each instance (omega (
+          arith,
+          inside,
+          least.count,
+          ap
+              (instances_of (own_of frames order place)) (same_busy passes),
+        )) in
         subst (FrameIsInTime frames order place instance)
         (least_unique (FrameCanStart frames order place bit instance) it.start
-            (get_or line.queue instance 0) it.least (least.starts instance inside)) it.in_time;
+        (get_or line.queue instance 0) it.least (least.starts instance inside)) it.in_time;
   }
 
   -- there are 1 to 256 starts
@@ -50,6 +55,6 @@ module _ (frames : List Timed) (order : List ℕ) (bit place : ℕ) (line : Fram
   least_has_room stage =
       let some = (own_is_in_range frames order place stage).some_period in
       let few = quotient-le (line.busy + (own_of frames order place).jitter)
-          (own_of frames order place).period 256 some least.busy.short in
+      (own_of frames order place).period 256 some least.busy.short in
       let first = some_instance (own_of frames order place) line.busy least.busy.busy.holds.some some in
       (omega (arith, least.count, first), omega (arith, least.count, few))

@@ -34,14 +34,14 @@ module _ (frames : List Timed) (order : List ℕ) (bit : ℕ) where
       → IsLeastLine frames order bit place other → line ≡ other
   one_line place line other least least' =
       let busy : line.busy ≡ other.busy = least_unique (IsBusy
-          (demand_of frames order place)) line.busy other.busy least.busy.busy least'.busy.busy in
+      (demand_of frames order place)) line.busy other.busy least.busy.busy least'.busy.busy in
       let long : length line.queue ≡ length other.queue =
       least.count ∙ ap (instances_of (own_of frames order place)) busy ∙ sym least'.count in
       let queue : line.queue ≡ other.queue =
       same_lists line.queue other.queue long (λ i d inside.
       get_or_default line.queue i d 0 inside
       ∙ least_unique (FrameCanStart frames order place bit i) (get_or line.queue i 0)
-          (get_or other.queue i 0) (least.starts i inside) (least'.starts i (omega (arith, inside, long)))
+      (get_or other.queue i 0) (least.starts i inside) (least'.starts i (omega (arith, inside, long)))
       ∙ get_or_default other.queue i 0 d (omega (arith, inside, long))) in
       λ i. record { busy = busy i; queue = queue i }
 
@@ -52,7 +52,7 @@ module _ (frames : List Timed) (order : List ℕ) (bit : ℕ) where
       let long : length lines ≡ length others = least.count ∙ sym least'.count in
       same_lists lines others long (λ i d inside.
       one_line i (get_or lines i d) (get_or others i d) (least.each i d inside)
-          (least'.each i d (omega (arith, inside, long))))
+      (least'.each i d (omega (arith, inside, long))))
 
 module _ (problem : Parts) (stands : IsProblem problem)
     (sorted : IsSorted problem.signals problem.items) where
@@ -60,15 +60,15 @@ module _ (problem : Parts) (stands : IsProblem problem)
   frames_in_range : All IsInRange (frames_alone problem)
   frames_in_range =
       All-map IsInRange (λ label. timed_of_items problem
-          (class_of label (labels_alone problem) problem.items))
-          (range_with_len 0 (classes_of (labels_alone problem)))
+      (class_of label (labels_alone problem) problem.items))
+      (range_with_len 0 (classes_of (labels_alone problem)))
       (λ k d inside.
       let within : k < classes_of (labels_alone problem) = omega
-          (arith, inside, length-range_with_len 0 (classes_of (labels_alone problem))) in
+      (arith, inside, length-range_with_len 0 (classes_of (labels_alone problem))) in
       let label : ℕ = get_or (range_with_len 0 (classes_of (labels_alone problem))) k d in
       frame_in_range problem (class_of label (labels_alone problem) problem.items) stands
       (class_has_signal problem problem.items (labels_alone problem) label
-          (items_of_signals problem.signals problem.items sorted) (one_each_legal problem stands).grouping
+      (items_of_signals problem.signals problem.items sorted) (one_each_legal problem stands).grouping
       (omega (arith, within, get_or-range_with_len 0 (classes_of (labels_alone problem)) k d within))))
 
   -- frames in time have one order, one matrix and one certificate
@@ -78,14 +78,14 @@ module _ (problem : Parts) (stands : IsProblem problem)
   one_in_time rows others cert other it that =
       let order : it.order ≡ that.order =
       one_order (frames_alone problem) problem.network.nominal_ticks
-          (record { in_range = frames_in_range; some_bit = stands.network.nominal_low })
+      (record { in_range = frames_in_range; some_bit = stands.network.nominal_low })
       it.order that.order it.lowest_first.fills that.lowest_first.fills in
       let same_rows : rows ≡ others = it.matrix ∙ ap (rows_of problem (labels_alone problem)) order
-          ∙ sym that.matrix in
+      ∙ sym that.matrix in
       let lines : cert.frames ≡ other.frames =
       one_list (frames_alone problem) that.order problem.network.nominal_ticks cert.frames other.frames
       (subst (λ o. AreLeastLines (frames_alone problem) o problem.network.nominal_ticks cert.frames) order
-          it.lines) that.lines in
+      it.lines) that.lines in
       let same_cert : cert ≡ other = it.certificate ∙ ap timed_parts lines ∙ sym that.certificate in
       λ i. alone.InTime (same_rows i) (same_cert i)
 

@@ -26,10 +26,17 @@ module _ (n : ℕ) where
       → IsSameSet order (range_with_len 0 n)
   same_numbers frames order count names = record {
     there = λ number among.
-        let inside : number < n = omega (arith, count, All-contains
-            (λ k. k < length frames) order number names.named among) in
-        (number, omega (arith, inside, length-range_with_len 0 n), omega
-            (arith, get_or-range_with_len 0 n number number inside));
+        let inside : number < n = omega (
+          arith,
+          count,
+          All-contains
+              (λ k. k < length frames) order number names.named among,
+        ) in (
+          number,
+          omega (arith, inside, length-range_with_len 0 n),
+          omega
+              (arith, get_or-range_with_len 0 n number number inside),
+        );
     back = λ number (k, inside, is).
         let within : k < n = omega (arith, inside, length-range_with_len 0 n) in
         names.each number (omega (arith, is, within, count, get_or-range_with_len 0 n k number within));
@@ -41,7 +48,7 @@ module _ (n : ℕ) where
     once = λ label low.
         sum_by-same_set (λ x. cond (nat_eq x label) 1 0) order (range_with_len 0 n) names.distinct
         (distinct-order (range_with_len 0 n) (range_with_len 0 n) (one_each_order n))
-            (same_numbers frames order count names)
+        (same_numbers frames order count names)
         ∙ (one_each_order n).once label low;
     only = λ k d lt. omega (arith, names.named k d lt, count, classes_of-range);
   }
@@ -51,21 +58,25 @@ pub is_front : (problem : Parts) (labels : List ℕ) → IsProblem problem → l
     → AreFirstLabels problem.items labels
 is_front problem labels stands same =
     subst (AreFirstLabels problem.items) (sym same) (front_of problem.items (labels_alone problem)
-        (one_each_legal problem stands).grouping)
+    (one_each_legal problem stands).grouping)
 
 -- and there are as many as classes
 pub as_many : (problem : Parts) (labels : List ℕ) → labels ≡ labels_alone problem
     → length labels ≡ classes_of labels
 as_many problem labels same =
     ap length same ∙ length-range_with_len 0 (length problem.items) ∙ sym
-        (ap classes_of same ∙ classes_of-range (length problem.items))
+    (ap classes_of same ∙ classes_of-range (length problem.items))
 
 -- at most 128
 pub few_labels : (problem : Parts) (labels : List ℕ) → IsProblem problem → labels ≡ labels_alone problem
     → length labels ≤ 128
 few_labels problem labels stands same =
-    omega (arith, ap length same, length-range_with_len 0 (length problem.items),
-        (tests problem stands).few_items)
+    omega (
+      arith,
+      ap length same,
+      length-range_with_len 0 (length problem.items),
+      (tests problem stands).few_items,
+    )
 
 -- an order that passes names each of the classes once
 pub order_that_passes : (problem : Parts) (labels order : List ℕ) (frames : List Timed) (bit : ℕ)
@@ -74,5 +85,5 @@ pub order_that_passes : (problem : Parts) (labels order : List ℕ) (frames : Li
 order_that_passes problem labels order frames bit same are passes =
     subst (λ l. IsOrder l order) (sym same)
     (order_of_frames (length problem.items) frames order
-        (count_frames problem (labels_alone problem) frames are ∙ classes_of-range
-        (length problem.items)) passes.names_each_once)
+    (count_frames problem (labels_alone problem) frames are ∙ classes_of-range
+    (length problem.items)) passes.names_each_once)

@@ -14,7 +14,7 @@ text_of (Err e) n m is exact = tt
 -- it is read as that network
 reads_of : {E : Type 0} (r : Result (Vec ℕ Global) E) (n m : Network) → n ≡ m
     → IfOk r (λ v. v.items ≡ network_text n) → IfOk r (λ v. NetworkText v.items n)
-        → OnOk r (NetworkText (network_text m) m)
+    → OnOk r (NetworkText (network_text m) m)
 reads_of (Ok v) n m is exact reads = ap network_of (ap network_text (sym is) ∙ sym exact) ∙ reads ∙ ap Ok is
 reads_of (Err e) n m is exact reads = tt
 

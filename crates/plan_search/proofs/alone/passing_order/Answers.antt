@@ -6,4 +6,4 @@ use Rattle.plan_search.proofs.alone.passing_order.Goals as goal
 pub returns-in-Stuck-clause-none : goal.returns-in-Stuck-clause-none
 returns-in-Stuck-clause-none c = λ order passes.
     let all : assigned.Stuck c.in-Stuck.remaining ≡ assigned.All = c.in-Stuck.ensures.solvable.1
-        (order, passes) in cc
+    (order, passes) in cc
