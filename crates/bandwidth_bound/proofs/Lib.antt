@@ -5,6 +5,12 @@ pub mod Final
 pub mod FinalChecks
 pub mod FinalNamed
 pub mod Loads
+pub mod PriceBound
+pub mod PriceFloors
+pub mod PriceFrames
+pub mod PriceItems
+pub mod PriceSplits
+pub mod PriceSums
 pub mod Shown
 pub mod Standing
 pub mod TreeClaims

@@ -5,6 +5,8 @@ pub mod Failing
 pub mod Follows
 pub mod Laws
 pub mod Loads
+pub mod PriceLaws
+pub mod Prices
 pub mod Rule
 pub mod Solvable
 pub mod Timing

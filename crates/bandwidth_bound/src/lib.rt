@@ -12,6 +12,7 @@ mod failing;
 #[cfg(test)]
 mod failing_tests;
 mod final_laws;
+mod price_laws;
 mod verdict;
 
 pub use bounds::{load8, loads_fit, lower8};
@@ -23,4 +24,5 @@ pub use final_laws::{
     bound_is_below, classes_extend, fail_set_is_final, failing_is_final, failing_sets_grow,
     loads_never_fall, refuted_is_failing,
 };
+pub use price_laws::{priced_is_below, priced_is_exact, priced_is_more, prices_are_below};
 pub use verdict::{Part, Verdict};

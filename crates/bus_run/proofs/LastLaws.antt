@@ -21,6 +21,26 @@ frame_in_range frames number are inside =
     (All-get_or IsInRange (times_of frames) number none_frame
     (omega (arith, length-map frames (λ (frame : BusFrame). frame.timed))) are.in_range)
 
+-- what holds of the last release before, and of those of its frame before that one, holds of all before
+by_last : (P : ℕ → Type 0) (run : Course) (number last : ℕ)
+    → HasLast run number (release_at run number).frame last → (0 < last → P (last - 1))
+    → (0 < last → (earlier : ℕ) → earlier < last - 1
+    → (release_at run earlier).frame ≡ (release_at run (last - 1)).frame → P earlier)
+    → (earlier : ℕ) → earlier < number
+    → (release_at run earlier).frame ≡ (release_at run number).frame → P earlier
+by_last P run number last it here first = λ earlier before same.
+    elim (cases_lt earlier last) [
+      | inr after ↦ absurd (it.none earlier after before same)
+      | inl below ↦
+          let some : 0 < last = omega arith in
+          elim (cases_lt earlier (last - 1)) [
+            | inl early ↦ first some earlier early (same ∙ sym (it.same some))
+            | inr not_early ↦
+                let is : last - 1 ≡ earlier = omega arith in
+                subst P is (here some)
+          ]
+    ]
+
 -- what the last release before says of all before
 pub periodic_by_last : (frames : List BusFrame) (run : Course) (number last : ℕ)
     → ((earlier : ℕ) → earlier < number → ReleaseStands frames run earlier)
@@ -28,27 +48,16 @@ pub periodic_by_last : (frames : List BusFrame) (run : Course) (number last : �
     → (0 < last → (release_at run (last - 1)).arrival + (bus_frame_at frames
     (release_at run number).frame).timed.period ≤ (release_at run number).arrival)
     → IsPeriodic frames run number
-periodic_by_last frames run number last stand it here = λ earlier before same.
-    elim (cases_lt earlier last) [
-      | inr after ↦ absurd (it.none earlier after before same)
-      | inl below ↦
-          let some : 0 < last = omega arith in
-          let frame_is : (release_at run (last - 1)).frame ≡ (release_at run number).frame = it.same some in
-          elim (cases_lt earlier (last - 1)) [
-            | inl first ↦
-                let last_stands : ReleaseStands frames run (last - 1) =
-                stand (last - 1) (omega (arith, it.within)) in
-                let period : (bus_frame_at frames (release_at run (last - 1)).frame).timed.period
-                ≡ (bus_frame_at frames (release_at run number).frame).timed.period =
-                ap (λ n. (bus_frame_at frames n).timed.period) frame_is in
-                omega (arith, here some, last_stands.period earlier first (same ∙ sym frame_is))
-            | inr not_first ↦
-                let is : earlier ≡ last - 1 = omega arith in
-                let arrival : (release_at run earlier).arrival ≡ (release_at run (last - 1)).arrival =
-                ap (λ n. (release_at run n).arrival) is in
-                omega (arith, here some)
-          ]
-    ]
+periodic_by_last frames run number last stand it here =
+    by_last (λ earlier. (release_at run earlier).arrival
+    + (bus_frame_at frames (release_at run number).frame).timed.period ≤ (release_at run number).arrival)
+    run number last it here
+    (λ some earlier first same.
+    let last_stands : ReleaseStands frames run (last - 1) = stand (last - 1) (omega (arith, it.within)) in
+    let period : (bus_frame_at frames (release_at run (last - 1)).frame).timed.period
+    ≡ (bus_frame_at frames (release_at run number).frame).timed.period =
+    ap (λ n. (bus_frame_at frames n).timed.period) (it.same some) in
+    omega (arith, here some, last_stands.period earlier first same))
 
 -- what the last release before says of the order of all before
 pub order_by_last : (frames : List BusFrame) (run : Course) (number last : ℕ)
@@ -56,24 +65,12 @@ pub order_by_last : (frames : List BusFrame) (run : Course) (number last : ℕ)
     → HasLast run number (release_at run number).frame last
     → (0 < last → (release_at run (last - 1)).queued ≤ (release_at run number).queued)
     → IsInOrder run number
-order_by_last frames run number last stand it here = λ earlier before same.
-    elim (cases_lt earlier last) [
-      | inr after ↦ absurd (it.none earlier after before same)
-      | inl below ↦
-          let some : 0 < last = omega arith in
-          let frame_is : (release_at run (last - 1)).frame ≡ (release_at run number).frame = it.same some in
-          elim (cases_lt earlier (last - 1)) [
-            | inl first ↦
-                let last_stands : ReleaseStands frames run (last - 1) =
-                stand (last - 1) (omega (arith, it.within)) in
-                omega (arith, here some, last_stands.in_order earlier first (same ∙ sym frame_is))
-            | inr not_first ↦
-                let is : earlier ≡ last - 1 = omega arith in
-                let queued : (release_at run earlier).queued ≡ (release_at run (last - 1)).queued =
-                ap (λ n. (release_at run n).queued) is in
-                omega (arith, here some)
-          ]
-    ]
+order_by_last frames run number last stand it here =
+    by_last (λ earlier. (release_at run earlier).queued ≤ (release_at run number).queued) run number last it
+    here
+    (λ some earlier first same.
+    let last_stands : ReleaseStands frames run (last - 1) = stand (last - 1) (omega (arith, it.within)) in
+    omega (arith, here some, last_stands.in_order earlier first same))
 
 -- each rule that a release breaks, by the table, for the release as it was read
 module _ (frames : List BusFrame) (run : Course) (number last : ℕ)

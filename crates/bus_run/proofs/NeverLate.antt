@@ -6,6 +6,7 @@ use Rattle.std.proofs.lemmas.Grind.{div_ceil_times}
 use Rattle.std.proofs.lemmas.List.Elements.{All-get_or}
 use Rattle.std.proofs.lemmas.List.Sums.{sum_by_more}
 use Rattle.std.proofs.Math.Nat.{mul-le-mul_right}
+use Rattle.busy_period.proofs.Growth.{ticks-le-blocking}
 use Rattle.busy_period.specs.declared.timed.Timed.{Timed}
 use Rattle.busy_period.specs.Timed.{IsInRange, none_frame, frame_at}
 use Rattle.busy_period.specs.Stage.{own_number, own_of, higher_of, lower_of}
@@ -49,18 +50,6 @@ in_take times order place n z it (k, below, is) =
     ∙ it.each k inside in
     (omega arith, omega arith)
 
--- a lower frame blocks at most
-blocking-le : (times : List Timed) (numbers : List ℕ) (z : ℕ) → Contains numbers z
-    → (frame_at times z).ticks ≤ blocking_of times numbers
-blocking-le times [] z (k, below, is) = absurd (omega (arith, below))
-blocking-le times (x ∷ xs) z (zero, below, is) =
-    let same : (frame_at times x).ticks ≡ (frame_at times z).ticks = ap (λ n. (frame_at times n).ticks) is in
-    omega arith
-blocking-le times (x ∷ xs) z (suc k, below, is) =
-    let rest : (frame_at times z).ticks ≤ blocking_of times xs =
-    blocking-le times xs z (k, omega (arith, below), is) in
-    omega arith
-
 -- each frame of a greater number is among the lower ones of the order
 lower_holds : (times : List Timed) (order : List ℕ) (place i : ℕ) → IsByNumber (length times) order place
     → own_number order place < i
@@ -76,11 +65,13 @@ lower_holds times order place i it above below =
     )
 
 -- a frame of the run's is in range, and no shorter than a bit
-in_range : (times : List Timed) (i : ℕ) → All IsInRange times → i < length times → IsInRange (frame_at times i)
+in_range : (times : List Timed) (i : ℕ) → All IsInRange times → i < length times
+    → IsInRange (frame_at times i)
 in_range times i ranges inside = All-get_or IsInRange times i none_frame inside ranges
 
 -- a bit is no longer than a frame
-bit-le : (times : List Timed) (bit i : ℕ) → IsBit times bit → i < length times → bit ≤ (frame_at times i).ticks
+bit-le : (times : List Timed) (bit i : ℕ) → IsBit times bit → i < length times
+    → bit ≤ (frame_at times i).ticks
 bit-le times bit i is_bit inside =
     All-get_or (λ frame. bit ≤ frame.ticks) times i none_frame inside is_bit.within
 
@@ -128,7 +119,7 @@ module _ (times : List Timed) (bit : ℕ) (run : Course) (stands : KeepsTime tim
             stands.frame_there (send_at run k).release (stands.takes_first k there).unsent.there in
             let most : (frame_at times (carried_by run k).frame).ticks
             ≤ blocking_of times (lower_of order place) =
-            blocking-le times (lower_of order place) (carried_by run k).frame
+            ticks-le-blocking times (lower_of order place) (carried_by run k).frame
             (lower_holds times order place (carried_by run k).frame by_number below named) in
             omega (arith, ap (λ (s : Span). s.start) is, ap (λ (s : Span). s.stop) is, lasts.most);
       } in
@@ -256,7 +247,8 @@ module _ (times : List Timed) (bit : ℕ) (run : Course) (stands : KeepsTime tim
                 ] in
                 let bound : end_at run j
                 ≤ from + (blocking_of times (lower_of order place) + work_of times levels busy) =
-                window_bound from (end_at run j) by (λ i. asks_of (frame_at times i) busy) (omega arith) pending
+                window_bound from (end_at run j) by (λ i. asks_of (frame_at times i) busy)
+                (omega arith) pending
                 (λ moment past within.
                 in_span times bit run stands j by moment started.there started.started
                 (omega (arith, started.started)) within) each in
@@ -330,7 +322,8 @@ module _ (times : List Timed) (bit : ℕ) (run : Course) (stands : KeepsTime tim
       let inside : many < length starts = omega (arith, shown.count) in
       let w : ℕ = get_or starts many 0 in
       let can_start : queueing_of times order place bit many w ≤ w = shown.can_start many inside in
-      let in_time : own.jitter + w + own.ticks ≤ own.deadline + many * own.period = shown.in_time many inside in
+      let in_time : own.jitter + w + own.ticks ≤ own.deadline + many * own.period =
+      shown.in_time many inside in
       let by : ℕ = from + w in
       let by_due : by + own.ticks
       ≤ (release_at run number).arrival + (frame_at times (release_at run number).frame).deadline =
@@ -347,15 +340,15 @@ module _ (times : List Timed) (bit : ℕ) (run : Course) (stands : KeepsTime tim
             (record {
               there = started.there;
               carries = started.carries;
-              ended =
-                  omega (arith, started.started, lasts.most);
+              ended = omega (arith, started.started, lasts.most);
             })
         | inr not_started ↦
             let pending : (moment : ℕ) → from ≤ moment → moment ≤ by → Pending run level moment =
             λ moment after by'.
             elim (cases_lt moment (release_at run number).queued) [
               | inl early ↦
-                  let o : Owing run level (moment + 1) = begun.owing (moment + 1) (omega arith) (omega arith) in
+                  let o : Owing run level (moment + 1) =
+                  begun.owing (moment + 1) (omega arith) (omega arith) in
                   record {
                     release = o.release;
                     there = o.there;

@@ -163,7 +163,8 @@ module _ (run : Course) (number : ℕ) (table : List ℕ) (below : FramesBelow r
           entry_queued release unsent,
         )
 
-    -- a send starts in time exactly where it starts at the greater of the end before and the least of the table
+    -- a send starts in time exactly where it starts at the greater of the end before and the least of the
+    -- table
     pub starts_by_least : (least : ℕ) → IsLeastBelow run table 128 least
         → (send_at run number).start ≡ max (end_before run number) least
         → (send_at run number).start < run.until → StartsInTime run number
@@ -195,8 +196,7 @@ module _ (run : Course) (number : ℕ) (table : List ℕ) (below : FramesBelow r
         omega (
           arith,
           none (release_at run release).frame (below release there),
-          entry_first release
-              starts.starts.unsent,
+          entry_first release starts.starts.unsent,
         )
 
     -- a send is of the highest frame exactly where the table has no higher one queued by its start
@@ -293,14 +293,14 @@ none_further run table below have none = λ release unsent.
     absurd (omega (
       arith,
       none (release_at run release).frame (below release there),
-      entry_first run
-          (length run.sends) table below have release unsent,
+      entry_first run (length run.sends) table below have release unsent,
     ))
 
 -- no further send starts where the least of the table comes too late
 pub no_further_by_least : (run : Course) (table : List ℕ) (least : ℕ) → FramesBelow run
     → HaveNext run (length run.sends) table
-    → ((release : ℕ) → release < length run.releases → IsInOrder run release) → IsLeastBelow run table 128 least
+    → ((release : ℕ) → release < length run.releases → IsInOrder run release)
+    → IsLeastBelow run table 128 least
     → run.until ≤ max (end_before run (length run.sends)) least → NoFurther run
 no_further_by_least run table least below have order it le = λ release unsent.
     omega (arith, least_of_all run (length run.sends) table below have order least it release unsent)

@@ -44,7 +44,13 @@ sum_by-less_within f g less a (x ∷ xs) le (suc k, below, is) here =
 pub sum_by-plus : (f g : ℕ → ℕ) (xs : List ℕ) → sum_by (λ z. f z + g z) xs ≡ sum_by f xs + sum_by g xs
 sum_by-plus f g [] = refl
 sum_by-plus f g (x ∷ xs) =
-    omega (arith, sum_by-plus f g xs, sum_by-cons f x xs, sum_by-cons g x xs, sum_by-cons (λ z. f z + g z) x xs)
+    omega (
+      arith,
+      sum_by-plus f g xs,
+      sum_by-cons f x xs,
+      sum_by-cons g x xs,
+      sum_by-cons (λ z. f z + g z) x xs,
+    )
 
 -- a number that fits below with room for one step is at most the quotient rounded up
 pub count-le_quotient : (m a y : ℕ) → 1 ≤ y → m * y < a + y → m ≤ div_ceil a y
@@ -88,7 +94,8 @@ spread_fits {X} test key low high step (x ∷ xs) none it =
         }) in
         let one : count_by test (x ∷ xs) ≡ 1 + count_by test xs =
         counted ∙ ap (λ b. cond b 1 0 + count_by test xs) e in
-        let product : count_by test (x ∷ xs) * step ≡ (1 + count_by test xs) * step = ap (λ n. n * step) one in
+        let product : count_by test (x ∷ xs) * step ≡ (1 + count_by test xs) * step =
+        ap (λ n. n * step) one in
         omega arith
     by others false e =
         let rest : low + count_by test xs * step ≤ high = others low (record {
@@ -99,5 +106,6 @@ spread_fits {X} test key low high step (x ∷ xs) none it =
         }) in
         let one : count_by test (x ∷ xs) ≡ 0 + count_by test xs =
         counted ∙ ap (λ b. cond b 1 0 + count_by test xs) e in
-        let product : count_by test (x ∷ xs) * step ≡ (0 + count_by test xs) * step = ap (λ n. n * step) one in
+        let product : count_by test (x ∷ xs) * step ≡ (0 + count_by test xs) * step =
+        ap (λ n. n * step) one in
         omega arith

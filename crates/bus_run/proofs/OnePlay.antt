@@ -18,7 +18,8 @@ use Rattle.bus_run.specs.Played.{pick_at, contends_by, Follows}
 same_sends : (s t : Sent) → s.release ≡ t.release → s.start ≡ t.start → s.esi ≡ t.esi → s.payload ≡ t.payload
     → s.ticks ≡ t.ticks → s ≡ t
 same_sends s t release start esi payload ticks =
-    ap (λ x. record { release = x; start = s.start; esi = s.esi; payload = s.payload; ticks = s.ticks }) release
+    ap (λ x. record { release = x; start = s.start; esi = s.esi; payload = s.payload; ticks = s.ticks })
+    release
     ∙ ap (λ x. record { release = t.release; start = x; esi = s.esi; payload = s.payload; ticks = s.ticks })
     start
     ∙ ap (λ x. record { release = t.release; start = t.start; esi = x; payload = s.payload; ticks = s.ticks })
@@ -36,7 +37,8 @@ module _ (releases : List Release) (until : ℕ) where
   -- the first sends of two runs are the same
   abbrev Agree : List Sent → List Sent → ℕ → Type 0
   Agree sends others number =
-      (i : ℕ) → i < number → send_at (course releases until sends) i ≡ send_at (course releases until others) i
+      (i : ℕ) → i < number → send_at (course releases until sends) i
+      ≡ send_at (course releases until others) i
 
   unsent_agrees : (sends others : List Sent) (number release : ℕ) → Agree sends others number
       → IsUnsent (course releases until sends) number release
@@ -53,7 +55,8 @@ module _ (releases : List Release) (until : ℕ) where
   end_agrees : (sends others : List Sent) (number : ℕ) → Agree sends others number
       → end_before (course releases until sends) number ≡ end_before (course releases until others) number
   end_agrees sends others zero agree = refl
-  end_agrees sends others (suc number) agree = ap (λ (s : Sent). s.start + s.ticks) (agree number (omega arith))
+  end_agrees sends others (suc number) agree =
+      ap (λ (s : Sent). s.start + s.ticks) (agree number (omega arith))
 
   module _ (network : Network) (frames : List BusFrame) (picks : List Pick) where
     -- a send stands, and follows its pick
@@ -94,7 +97,8 @@ module _ (releases : List Release) (until : ℕ) where
           | inl less ↦
               let r : ℕ = (send_at (course releases until others) number).release in
               let unsent : IsUnsent (course releases until sends) number r =
-              unsent_agrees others sends number r (back sends others number agree) other.0.takes_first.unsent in
+              unsent_agrees others sends number r
+              (back sends others number agree) other.0.takes_first.unsent in
               absurd (omega (
                 arith,
                 one.1.highest r unsent less,
@@ -128,23 +132,20 @@ module _ (releases : List Release) (until : ℕ) where
         omega (
           arith,
           starts_no_later sends others number agree one other,
-          starts_no_later others sends number
-              agree' other one,
+          starts_no_later others sends number agree' other one,
         ) in
         let frame : (carried_by (course releases until sends) number).frame
         ≡ (carried_by (course releases until others) number).frame =
         omega (
           arith,
           no_lower sends others number agree one other start,
-          no_lower others sends number agree'
-              other one (sym start),
+          no_lower others sends number agree' other one (sym start),
         ) in
         let release : s.release ≡ t.release =
         omega (
           arith,
           no_later sends others number agree one other frame,
-          no_later others sends number agree'
-              other one (sym frame),
+          no_later others sends number agree' other one (sym frame),
         ) in
         let esi : s.esi ≡ t.esi = one.1.picked.esi ∙ sym other.1.picked.esi in
         let payload : s.payload ≡ t.payload =
@@ -183,7 +184,8 @@ module _ (releases : List Release) (until : ℕ) where
           λ i below. elim (cases_lt i count) [
             | inl below' ↦ before i below'
             | inr last ↦
-                subst (λ n. send_at (course releases until sends) n ≡ send_at (course releases until others) n)
+                subst (λ n. send_at (course releases until sends) n
+                ≡ send_at (course releases until others) n)
                 (let e : count ≡ i = omega (arith, below) in e) here
           ]
 
@@ -203,8 +205,7 @@ module _ (releases : List Release) (until : ℕ) where
                   arith,
                   starts.starts.then,
                   starts.before_end,
-                  one.no_further
-                      starts.starts.release unsent,
+                  one.no_further starts.starts.release unsent,
                   end_agrees sends others n agree,
                 ))
           ]
@@ -223,13 +224,11 @@ one_run network frames picks releases until sends others one other follows follo
     let long : length sends ≡ length others = elim (cases_lt (length sends) (length others)) [
       | inl less ↦ omega (
         arith,
-        no_longer releases until network frames picks sends others one other follows
-            follows' (omega arith),
+        no_longer releases until network frames picks sends others one other follows follows' (omega arith),
       )
       | inr le ↦ omega (
         arith,
-        no_longer releases until network frames picks others sends other one follows'
-            follows le,
+        no_longer releases until network frames picks others sends other one follows' follows le,
       )
     ] in
     let agree : (i : ℕ) → i < length sends

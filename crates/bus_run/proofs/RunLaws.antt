@@ -239,8 +239,7 @@ module _ (times : List Timed) (bit : ℕ) (run : Course) (stands : KeepsTime tim
               arith,
               stands.no_further it.release unsent,
               it.queued,
-              before-ended
-                  (length run.sends) moment ended,
+              before-ended (length run.sends) moment ended,
               before,
             ))
       ]

@@ -109,7 +109,8 @@ filled from to by (span ∷ spans) apart busy =
       | inr past ↦ omega arith
       | inl some ↦ elim (first_or_past span spans by from apart (busy from (omega arith) some)) [
         | inr past ↦
-            let rest : to ≤ from + window from by spans = filled from to by spans (tail_apart span spans apart)
+            let rest : to ≤ from + window from by spans =
+            filled from to by spans (tail_apart span spans apart)
             (λ moment after before. in_tail span spans by moment (busy moment after before) (omega arith)) in
             omega arith
         | inl (started, after, before) ↦
@@ -245,8 +246,7 @@ brings test from by span = at (test span.charge) refl (cases_lt from span.stop) 
           e,
           stops,
           starts,
-          ap (λ b. cond b (part_of from by span) 0) e
-              ∙ part_inside from by span stops starts,
+          ap (λ b. cond b (part_of from by span) 0) e ∙ part_inside from by span stops starts,
         )
 
 -- spans that bring nothing bring nothing together
@@ -258,8 +258,7 @@ all_bring_none f (span ∷ spans) none =
       arith,
       sum_by-cons f span spans,
       none 0 (omega arith),
-      all_bring_none f spans
-          (λ k inside. none (suc k) (omega arith)),
+      all_bring_none f spans (λ k inside. none (suc k) (omega arith)),
     )
 
 -- one lower span blocks at most
@@ -285,8 +284,7 @@ lower-le place from by most (span ∷ spans) apart it =
                 absurd (omega (
                   arith,
                   it.early (suc k) (omega arith) lower' stops' starts',
-                  apart.apart 0
-                      (suc k) (omega arith) (omega arith),
+                  apart.apart 0 (suc k) (omega arith) (omega arith),
                 ))
           ]) in
           omega (arith, it.short 0 (omega arith) lower)

@@ -50,23 +50,24 @@ keeps_time network frames run network_stands have stands =
     let at : (number : ℕ) → frame_at (times_of frames) number ≡ (bus_frame_at frames number).timed =
     time_at frames in
     record {
-      frame_there = λ r there. omega
-          (arith, (stands.releases r there).frame_there, length-map frames (λ (frame : BusFrame). frame.timed));
+      frame_there = λ r there. omega (
+        arith,
+        (stands.releases r there).frame_there,
+        length-map frames (λ (frame : BusFrame). frame.timed),
+      );
       queued = λ r there. record {
         after = (stands.releases r there).queued.after;
         within = omega (
           arith,
           (stands.releases r there).queued.within,
-          ap (λ (t : Timed). t.jitter)
-              (at (release_at run r).frame),
+          ap (λ (t : Timed). t.jitter) (at (release_at run r).frame),
         );
       };
       period = λ earlier later lt there same.
           omega (
             arith,
             (stands.releases later there).period earlier lt same,
-            ap (λ (t : Timed). t.period)
-                (at (release_at run later).frame),
+            ap (λ (t : Timed). t.period) (at (release_at run later).frame),
           );
       in_order = λ earlier later lt there same. (stands.releases later there).in_order earlier lt same;
       takes_first = λ j inside. (stands.sends j inside).takes_first;
@@ -90,8 +91,7 @@ keeps_time network frames run network_stands have stands =
             least = omega (
               arith,
               it.least,
-              ticks_of-at_least network frame.id (send_at run j).esi
-                  (send_at run j).payload,
+              ticks_of-at_least network frame.id (send_at run j).esi (send_at run j).payload,
               network_stands.nominal_low,
             );
             most = omega (arith, it.most, ap (λ (t : Timed). t.ticks) (at number));

@@ -24,8 +24,7 @@ abbrev pub span_of : Course → Sent → Span
 span_of run send = record {
   start = send.start;
   stop = send.start + send.ticks;
-  charge =
-      Some (frame_of run send);
+  charge = Some (frame_of run send);
 }
 
 -- the spans of the sends of a run
@@ -195,7 +194,8 @@ module _ (times : List Timed) (bit : ℕ) (run : Course) (stands : KeepsTime tim
             let jitter : (frame_at times (carried_by run j).frame).jitter ≡ frame.jitter =
             ap (λ n. (frame_at times n).jitter) it.frame in
             omega (arith, queued.within);
-        below = λ j inside passes. below j inside (counts_from run from by number limit (send_at run j) passes);
+        below =
+            λ j inside passes. below j inside (counts_from run from by number limit (send_at run j) passes);
         apart = λ i j lt inside passes passes'.
             let it : Counts run from by number limit (send_at run i) =
             counts_from run from by number limit (send_at run i) passes in
@@ -209,8 +209,7 @@ module _ (times : List Timed) (bit : ℕ) (run : Course) (stands : KeepsTime tim
             ap (λ n. (frame_at times n).period) it'.frame in
             omega (
               arith,
-              stands.period (send_at run i).release (send_at run j).release order unsent.there
-                  same,
+              stands.period (send_at run i).release (send_at run j).release order unsent.there same,
             );
       })
 
@@ -233,8 +232,7 @@ module _ (times : List Timed) (bit : ℕ) (run : Course) (stands : KeepsTime tim
               frame = frame;
               after = after;
               started = omega arith;
-              before =
-                  below j inside frame after started;
+              before = below j inside frame after started;
             }),
         omega (arith, lasts.most),
       ))

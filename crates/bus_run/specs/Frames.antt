@@ -1,5 +1,7 @@
 -- The frames of a bus.
 use Rattle.std.specs.Prelude.{◌≡◌, ℕ, ◌<◌, ◌≤◌, List, All, length, map, slice_index_or}
+use Rattle.frame_ticks.specs.declared.bits.TheConstants.{IDENTIFIERS}
+use Rattle.busy_period.specs.declared.timed.TheConstants.{MAX_FRAMES}
 use Rattle.pack_model.specs.declared.network.Network.{Network}
 use Rattle.fd_length.specs.Size.{IsSize}
 use Rattle.frame_ticks.specs.Worst.{worst_ticks_of}
@@ -21,10 +23,10 @@ times_of frames = map (λ (frame : BusFrame). frame.timed) frames
 
 -- the frames of a bus: at most 128, by ascending identifier, each of a size of CAN FD, with times in range
 pub record AreBusFrames (frames : List BusFrame) : Type 0 where
-  pub few : length frames ≤ 128
+  pub few : length frames ≤ MAX_FRAMES
   pub ascending : (earlier later : ℕ) → earlier < later → later < length frames
       → (bus_frame_at frames earlier).id < (bus_frame_at frames later).id
-  pub id_high : All (λ frame. frame.id < 2048) frames
+  pub id_high : All (λ frame. frame.id < IDENTIFIERS) frames
   pub listed : All (λ frame. IsSize frame.size) frames
   pub in_range : All IsInRange (times_of frames)
 

@@ -10,6 +10,7 @@ ghost use Rattle.bus_run.specs.Late.{EndsBy, IsLate, IsByNumber};
 ghost use Rattle.bus_run.specs.Limits.{ReleaseLimited};
 
 use crate::run::{BusFrame, Run};
+use busy_period::MAX_FRAMES;
 
 /// The first send from the number `from` on that carries a release and ends by a time in ticks, or None where
 /// none does.
@@ -62,7 +63,7 @@ pub fn first_late(frames: &[BusFrame], run: &Run) -> Option<u32>
         → IsShown (times_of frames.now) order place network.nominal_ticks busy starts
         → IfSome result (λ late. (release_at run.now late).frame ≡ place → ⊥) }
 {
-    let mut from = [0; 128];
+    let mut from = [0; MAX_FRAMES];
     for number in 0..run.released() {
         let frame = run.release(number).frame as usize;
         match in_time(frames, run, number, from[frame]) {

@@ -12,7 +12,8 @@ ghost use Rattle.bus_run.specs.Played.{Contends, StartsAt, NoneStarts, IsPlayed,
 
 use crate::run::{BusFrame, Release, Run, Sent, run_of};
 use crate::unsent::{first_from, first_of_each, least_queued};
-use frame_ticks::real_ticks;
+use busy_period::MAX_FRAMES;
+use frame_ticks::{IDENTIFIERS, real_ticks};
 use pack_model::{Memory, Network, Payload};
 use std::alloc::Global;
 
@@ -59,11 +60,11 @@ fn contends_until(network: &Network, pick: &Pick, start: u64) -> u64
 }
 
 /// The highest frame whose first unsent release is queued by a time, or None where there is none.
-fn contender(run: &Run, next: &[usize; 128], time: u64) -> Option<usize>
-    ensures { MatchOption result (QueuedAfter run.now next.now 128 time)
+fn contender(run: &Run, next: &[usize; MAX_FRAMES], time: u64) -> Option<usize>
+    ensures { MatchOption result (QueuedAfter run.now next.now MAX_FRAMES time)
         (λ frame. Contends run.now next.now time frame) }
 {
-    for frame in 0..128 {
+    for frame in 0..MAX_FRAMES {
         if next[frame] < run.released() && run.release(next[frame]).queued <= time {
             return Some(frame);
         }
@@ -72,7 +73,7 @@ fn contender(run: &Run, next: &[usize; 128], time: u64) -> Option<usize>
 }
 
 /// When a further send starts, or None where none starts before the run ends.
-fn start_of(run: &Run, next: &[usize; 128], end: u64) -> Option<u64>
+fn start_of(run: &Run, next: &[usize; MAX_FRAMES], end: u64) -> Option<u64>
     ensures { MatchOption result (NoneStarts run.now next.now end)
         (λ start. StartsAt run.now next.now end start) }
 {
@@ -95,7 +96,7 @@ fn sent_by(
     pick: &Pick,
 ) -> Result<Sent, Memory>
     requires network { NetworkStands network.now }
-    requires id { frame.now.id < 2048 }
+    requires id { frame.now.id < IDENTIFIERS }
     requires listed { IsSize frame.now.size }
     ensures release { IfOk result (λ send. send.release ≡ release) }
     ensures start { IfOk result (λ send. send.start ≡ start) }
@@ -122,7 +123,7 @@ fn play_send(
     frames: &[BusFrame],
     picks: &[Pick],
     run: &mut Run,
-    next: &mut [usize; 128],
+    next: &mut [usize; MAX_FRAMES],
     end: u64,
     start: u64,
 ) -> Result<u64, Memory>

@@ -10,6 +10,7 @@ ghost use Rattle.bus_run.specs.Tables.{HasLast, HaveLast};
 
 use crate::run::{BusFrame, Release, Run};
 use crate::stands::Broken;
+use busy_period::MAX_FRAMES;
 
 /// Whether a release is queued within its frame's jitter.
 fn is_queued(frame: &BusFrame, release: &Release) -> bool
@@ -27,9 +28,11 @@ fn is_periodic(frame: &BusFrame, run: &Run, number: usize, last: usize) -> bool
     requires range { IsInRange frame.now.timed }
     requires last { HasLast run.now number (release_at run.now number).frame last }
     ensures some { IsTrue result → 0 < last
-        → (release_at run.now (last - 1)).arrival + frame.now.timed.period ≤ (release_at run.now number).arrival }
+        → (release_at run.now (last - 1)).arrival + frame.now.timed.period
+        ≤ (release_at run.now number).arrival }
     ensures none { ((0 < last)
-        → (release_at run.now (last - 1)).arrival + frame.now.timed.period ≤ (release_at run.now number).arrival)
+        → (release_at run.now (last - 1)).arrival + frame.now.timed.period
+        ≤ (release_at run.now number).arrival)
         → IsTrue result }
 {
     last == 0 || run.release(last - 1).arrival + frame.timed.period <= run.release(number).arrival
@@ -53,7 +56,7 @@ fn release_stands(
     frames: &[BusFrame],
     run: &Run,
     number: usize,
-    last: &[usize; 128],
+    last: &[usize; MAX_FRAMES],
 ) -> Result<(), u8>
     requires frames { AreBusFrames frames.now }
     requires inside { number < length run.now.releases }
@@ -86,7 +89,7 @@ pub(crate) fn releases_stand(frames: &[BusFrame], run: &Run) -> Result<(), Broke
     ensures stands { OnOk result (ReleasesStand frames.now run.now) }
     ensures breaks { IfErr result (λ broken. FirstRelease frames.now run.now broken.rule broken.place) }
 {
-    let mut last = [0; 128];
+    let mut last = [0; MAX_FRAMES];
     for number in 0..run.released() {
         if let Err(rule) = release_stands(frames, run, number, &last) {
             return Err(Broken {

@@ -59,7 +59,8 @@ impl Model for Run {
 
     ghost view = { λ a. record { releases = a.releases.items; sends = a.sends.items; until = a.until } };
 
-    ghost invariant = { λ a. IsLimited (record { releases = a.releases.items; sends = a.sends.items; until = a.until }) };
+    ghost invariant = { λ a. IsLimited
+        (record { releases = a.releases.items; sends = a.sends.items; until = a.until }) };
 }
 
 impl Run {

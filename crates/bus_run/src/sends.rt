@@ -11,11 +11,12 @@ ghost use Rattle.bus_run.specs.Tables.{HaveNext, IsLeastBelow, NoneIn, QueuedAft
 
 use crate::run::{BusFrame, Run, Sent};
 use crate::unsent::{least_queued, queued_after};
-use frame_ticks::real_ticks;
+use busy_period::MAX_FRAMES;
+use frame_ticks::{IDENTIFIERS, real_ticks};
 use pack_model::Network;
 
 /// Whether a send takes the first unsent release of its frame. `next` has the first unsent one of each frame.
-fn takes_first(run: &Run, number: usize, next: &[usize; 128]) -> bool
+fn takes_first(run: &Run, number: usize, next: &[usize; MAX_FRAMES]) -> bool
     requires inside { number < length run.now.sends }
     requires below { FramesBelow run.now }
     requires next { HaveNext run.now number next.now }
@@ -40,7 +41,7 @@ fn fits(frames: &[BusFrame], run: &Run, number: usize) -> bool
 /// Whether a send lasts as long as its bits do.
 fn lasts_as_sent(network: &Network, frame: &BusFrame, send: &Sent) -> bool
     requires network { NetworkStands network.now }
-    requires id { frame.now.id < 2048 }
+    requires id { frame.now.id < IDENTIFIERS }
     requires listed { IsSize frame.now.size }
     requires fits { length send.now.payload ≡ frame.now.size }
     requires limited { SendLimited send.now }
@@ -66,7 +67,7 @@ fn lasts(network: &Network, frames: &[BusFrame], run: &Run, number: usize) -> bo
 }
 
 /// Whether a send starts when the one before has ended and something is queued, before the run ends.
-fn starts_in_time(run: &Run, number: usize, next: &[usize; 128], end: u64) -> bool
+fn starts_in_time(run: &Run, number: usize, next: &[usize; MAX_FRAMES], end: u64) -> bool
     requires inside { number < length run.now.sends }
     requires below { FramesBelow run.now }
     requires order { (release : ℕ) → release < length run.now.releases → IsInOrder run.now release }
@@ -92,7 +93,7 @@ fn has_joined(network: &Network, run: &Run, number: usize) -> bool
 }
 
 /// Whether no release of a higher frame is queued by the start of a send.
-fn is_highest(run: &Run, number: usize, next: &[usize; 128]) -> bool
+fn is_highest(run: &Run, number: usize, next: &[usize; MAX_FRAMES]) -> bool
     requires inside { number < length run.now.sends }
     requires takes { TakesFirst run.now number }
     requires below { FramesBelow run.now }
@@ -112,7 +113,7 @@ pub(crate) fn send_stands(
     frames: &[BusFrame],
     run: &Run,
     number: usize,
-    next: &[usize; 128],
+    next: &[usize; MAX_FRAMES],
     end: u64,
 ) -> Result<(), u8>
     requires network { NetworkStands network.now }

@@ -10,6 +10,7 @@ use crate::releases::releases_stand;
 use crate::run::{BusFrame, Run};
 use crate::sends::send_stands;
 use crate::unsent::{first_from, first_of_each, least_queued};
+use busy_period::MAX_FRAMES;
 use pack_model::Network;
 
 /// The first rule that a run breaks.
@@ -22,7 +23,7 @@ pub struct Broken {
 }
 
 /// Whether no further send starts before the run ends.
-fn no_further(run: &Run, next: &[usize; 128], end: u64) -> bool
+fn no_further(run: &Run, next: &[usize; MAX_FRAMES], end: u64) -> bool
     requires below { FramesBelow run.now }
     requires order { (release : ℕ) → release < length run.now.releases → IsInOrder run.now release }
     requires next { HaveNext run.now (length run.now.sends) next.now }

@@ -7,8 +7,10 @@ ghost use Rattle.bus_run.specs.Limits.{ReleaseLimited};
 ghost use Rattle.bus_run.specs.Tables.{IsFirstFrom, HaveNext, IsLeastBelow, NoneIn, QueuedAfter};
 
 use crate::run::Run;
+use busy_period::MAX_FRAMES;
 
-/// The first release of a frame from the number `from` on, or how many releases there are where there is none.
+/// The first release of a frame from the number `from` on, or how many releases there are where there is
+/// none.
 pub(crate) fn first_from(run: &Run, frame: u32, from: usize) -> usize
     requires { from ≤ length run.now.releases }
     ensures { IsFirstFrom run.now frame from result }
@@ -22,11 +24,11 @@ pub(crate) fn first_from(run: &Run, frame: u32, from: usize) -> usize
 }
 
 /// The first release of each frame.
-pub(crate) fn first_of_each(run: &Run) -> [usize; 128]
+pub(crate) fn first_of_each(run: &Run) -> [usize; MAX_FRAMES]
     ensures { HaveNext run.now 0 result }
 {
-    let mut next = [0; 128];
-    for frame in 0..128 {
+    let mut next = [0; MAX_FRAMES];
+    for frame in 0..MAX_FRAMES {
         next[frame] = first_from(run, frame as u32, 0);
     }
     next
@@ -43,12 +45,12 @@ fn lesser(least: Option<u64>, queued: u64) -> u64
 }
 
 /// The least time in ticks at which a release in a table is queued, or None where the table has none.
-pub(crate) fn least_queued(run: &Run, next: &[usize; 128]) -> Option<u64>
-    ensures { MatchOption result (NoneIn run.now next.now 128)
-        (λ least. IsLeastBelow run.now next.now 128 least) }
+pub(crate) fn least_queued(run: &Run, next: &[usize; MAX_FRAMES]) -> Option<u64>
+    ensures { MatchOption result (NoneIn run.now next.now MAX_FRAMES)
+        (λ least. IsLeastBelow run.now next.now MAX_FRAMES least) }
 {
     let mut least = None;
-    for frame in 0..128 {
+    for frame in 0..MAX_FRAMES {
         if next[frame] < run.released() {
             least = Some(lesser(least, run.release(next[frame]).queued));
         }
@@ -57,8 +59,8 @@ pub(crate) fn least_queued(run: &Run, next: &[usize; 128]) -> Option<u64>
 }
 
 /// Whether all releases in a table, of the frames below `count`, are queued after a time in ticks.
-pub(crate) fn queued_after(run: &Run, next: &[usize; 128], count: usize, time: u64) -> bool
-    requires { count ≤ 128 }
+pub(crate) fn queued_after(run: &Run, next: &[usize; MAX_FRAMES], count: usize, time: u64) -> bool
+    requires { count ≤ MAX_FRAMES }
     ensures { IsTrue result ↔ QueuedAfter run.now next.now count time }
 {
     for frame in 0..count {

@@ -10,6 +10,8 @@ mod containers;
 #[cfg(test)]
 mod hostile;
 #[cfg(test)]
+mod made;
+#[cfg(test)]
 mod matrices;
 #[cfg(test)]
 mod planned;

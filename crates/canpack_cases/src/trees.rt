@@ -253,6 +253,6 @@ fn deep_trees_are_refused(rt: HostRuntime) -> Result<(), Fail> {
     let mut out = MemSink::new(rt.alloc());
     let answer = status_of(&rt, &CHECK, &mut folder, &mut out)?;
     assert_eq!(rt; answer, 4);
-    assert_eq!(rt; out.said(), b"refused CERT line 133\n");
+    assert_eq!(rt; out.said(), b"refused CERT line 133\n".as_slice());
     Ok(())
 }

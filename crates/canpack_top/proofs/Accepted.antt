@@ -44,8 +44,10 @@ same_problem : (names : Names) (before now : Files)
     → file_at now names.signals ≡ file_at before names.signals
     → problem_at names now ≡ problem_at names before
 unfolding problem_at
-same_problem names before now network signals = rw (same_network before now names.network network,
-    same_signals before now names.signals signals) refl
+same_problem names before now network signals = rw (
+  same_network before now names.network network,
+  same_signals before now names.signals signals,
+) refl
 
 -- a file with this text has this matrix
 file_matrix : (files : Files) (name text : List ℕ) (rows : List MatrixRow) → file_at files name ≡ Some text
@@ -67,23 +69,23 @@ file_cert files name text cert holds small reads =
 pub written_accepted : (names : Names) (before now : Files) (p : Parts) (rows : List MatrixRow)
     (cert : CertParts) (shown : Verdict) (matrix_bytes cert_bytes line : List ℕ)
     → IsSome before → Written names.matrix names.cert matrix_bytes cert_bytes before now
-        → problem_at names before ≡ Ok p
+    → problem_at names before ≡ Ok p
     → names.network ≢ names.matrix → names.network ≢ names.cert → names.signals ≢ names.matrix
-        → names.signals ≢ names.cert
+    → names.signals ≢ names.cert
     → length matrix_bytes ≤ size_limit → length cert_bytes ≤ size_limit
     → MatrixText matrix_bytes rows → cert_of_text cert_bytes ≡ Ok cert
     → rule.Accepts (record { problem = p; matrix = rows; cert = cert }) shown
-        → line ≡ verdict_line p.hyper shown
+    → line ≡ verdict_line p.hyper shown
     → AcceptsWith names now line
 unfolding texts_at
 written_accepted names before now p rows cert shown matrix_bytes cert_bytes line told written stands nm nc sm
     sc matrix_small cert_small matrix_reads cert_reads accepts is =
     let problem : problem_at names now ≡ Ok p =
     same_problem names before now (written.others told names.network nm nc)
-        (written.others told names.signals sm sc) ∙ stands in
+    (written.others told names.signals sm sc) ∙ stands in
     let matrix_is : matrix_at now names.matrix ≡ Ok rows =
     file_matrix now names.matrix matrix_bytes rows (written.first_whole told) matrix_small
-        (written_matrix rows matrix_bytes matrix_reads) in
+    (written_matrix rows matrix_bytes matrix_reads) in
     let cert_is : cert_at now names.cert ≡ Ok cert = file_cert now names.cert cert_bytes cert
-        (written.second_whole told) cert_small cert_reads in
+    (written.second_whole told) cert_small cert_reads in
     rw (problem, matrix_is, cert_is) (shown, accepts, is)

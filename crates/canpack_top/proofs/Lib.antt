@@ -7,4 +7,6 @@ pub mod Runs
 pub mod Said
 pub mod Promised
 pub mod CommandLaws
+pub mod Made
+pub mod MakeLaws
 pub mod SteadyLaws

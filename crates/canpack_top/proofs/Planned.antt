@@ -1,5 +1,5 @@
 -- What was written is what was planned.
-use Rattle.std.proofs.Common.{◌≡◌, List, ℕ, Ok, IsOkAnd, ap, subst}
+use Rattle.std.proofs.Common.{◌≡◌, List, ℕ, Ok, IsOkAnd, subst}
 use Rattle.pack_base.specs.Outside.{Files}
 use Rattle.pack_model.specs.Problem.{Parts}
 use Rattle.canpack_top.specs.declared.ending.Status.TheVariants as status
@@ -17,7 +17,7 @@ answer_is answer problem names before now done made = λ i. record { status = do
 -- it is the answer of the plan
 pub is_plan_answer : (names : Names) (before mid now : Files) (problem : Parts) (answer : Answer)
     → problem_at names before ≡ Ok problem → answer.status ≡ status.Done
-        → PlanWritten names problem answer.line mid now
+    → PlanWritten names problem answer.line mid now
     → IsOkAnd (problem_at names before) (IsPlanAnswer answer)
 is_plan_answer names before mid now problem answer stands done made =
     rw stands (made.plan, made.exact, answer_is answer problem names mid now done made)
@@ -25,7 +25,7 @@ is_plan_answer names before mid now problem answer stands done made =
 -- two whole texts that were written are those that are planned
 pub is_planned : (names : Names) (before mid now : Files) (problem : Parts) (line : List ℕ)
     → problem_at names before ≡ Ok problem → mid ≡ before → PlanWritten names problem line mid now
-        → IsPlanned names before now line
+    → IsPlanned names before now line
 is_planned names before mid now problem line stands same written =
     let Q : Files → Type 0 = λ f. PlanWritten names problem line f now in
     rw stands (subst Q same written)
@@ -33,7 +33,7 @@ is_planned names before mid now problem line stands same written =
 -- the same of texts that were written in part
 pub is_part_planned : (names : Names) (before mid now : Files) (problem : Parts)
     → problem_at names before ≡ Ok problem → mid ≡ before → PlanPartWritten names problem mid now
-        → IsPartPlanned names before now
+    → IsPartPlanned names before now
 is_part_planned names before mid now problem stands same written =
     let Q : Files → Type 0 = λ f. PlanPartWritten names problem f now in
     rw stands (subst Q same written)

@@ -91,13 +91,18 @@ module _ {F : Type 0} {files : F → Files} {read_faults write_faults given_byte
   -- a command whose reading stopped runs
   pub stopped : (meaning : Meaning) (why : Stop) (result : Result GivenAnswer Halt) → Stops why result
       → ((what : Refusal) → why ≡ stop.Refused what → IsSome (files old) → meaning.first_refusal
-          (files old) ≡ Some (refused_line what))
+      (files old) ≡ Some (refused_line what))
       → (why ≡ stop.ReadFault → SomeRose meaning.reads (read_faults old) (read_faults new))
       → ReadsOnly files read_faults write_faults given_bytes old new
       → Runs meaning files read_faults write_faults given_bytes old new result
   stopped meaning (stop.Refused what) (Ok answer) is first rose only =
-      unwritten meaning (Ok answer) (inr (record { why = what; is = is; first = first what refl; same =
-          only.same })) (λ h. cc) (λ h. cc) only
+      unwritten meaning (Ok answer) (inr (record {
+        why = what;
+        is = is;
+        first = first what refl;
+        same =
+            only.same;
+      })) (λ h. cc) (λ h. cc) only
   stopped meaning (stop.Refused what) (Err halt.Memory) is first rose only = unwritten meaning
       (Err halt.Memory) tt (λ h. cc) (λ h. cc) only
   stopped meaning (stop.Refused what) (Err halt.ReadFault) is first rose only = absurd is
@@ -112,25 +117,25 @@ module _ {F : Type 0} {files : F → Files} {read_faults write_faults given_byte
   -- `check` ran where something was found
   pub judged : (names : Names) (judgement : Judgement) (result : Result GivenAnswer Halt)
       → IfOk result (λ answer. seen answer ≡ check_answer judgement.hyper judgement.found) → OnErr result
-          (result ≡ Err halt.Memory)
+      (result ≡ Err halt.Memory)
       → (IsSome (files old) → IsOkAnd (texts_at names (files old))
-          (λ judged. Finds judgement.found judged × (judgement.hyper ≡ judged.problem.hyper)))
+      (λ judged. Finds judgement.found judged × (judgement.hyper ≡ judged.problem.hyper)))
       → (IsSome (files old) → IsShown judgement.found → HasAll names (files old))
       → ReadsOnly files read_faults write_faults given_bytes old new
       → Runs (check_meaning names) files read_faults write_faults given_bytes old new result
   judged names judgement (Ok answer) is no_err finds holds only = unwritten (check_meaning names)
       (Ok answer) (inl (record {
-    has = (judgement.hyper, judgement.found, is);
-    not_refused = λ h. not_refused judgement.hyper judgement.found (sym (ap (λ a. a.status) is) ∙ h);
-    stand = λ told. no_refusal (texts_at names (files old)) _ (finds told);
-    answers = λ told. ok_and (texts_at names (files old)) _ (IsAnswerOf (seen answer))
-        (λ judged both. (judgement.found, both.0, is ∙ ap (λ h. check_answer h judgement.found) both.1))
+        has = (judgement.hyper, judgement.found, is);
+        not_refused = λ h. not_refused judgement.hyper judgement.found (sym (ap (λ a. a.status) is) ∙ h);
+        stand = λ told. no_refusal (texts_at names (files old)) _ (finds told);
+        answers = λ told. ok_and (texts_at names (files old)) _ (IsAnswerOf (seen answer))
+            (λ judged both. (judgement.found, both.0, is ∙ ap (λ h. check_answer h judgement.found) both.1))
             (finds told);
-    leaves = λ told. only.same;
-    shows = λ told done. holds told (is_shown judgement.hyper judgement.found
-        (sym (ap (λ a. a.status) is) ∙ done));
-    kept = λ h. only.same;
-  })) (λ h. cc) (λ h. cc) only
+        leaves = λ told. only.same;
+        shows = λ told done. holds told (is_shown judgement.hyper judgement.found
+            (sym (ap (λ a. a.status) is) ∙ done));
+        kept = λ h. only.same;
+      })) (λ h. cc) (λ h. cc) only
   judged names judgement (Err why) is no_err finds holds only = unwritten (check_meaning names) (Err why) tt
       (λ h. cc) (λ h. cc) only
 
@@ -141,36 +146,40 @@ module _ {F : Type 0} {files : F → Files} {read_faults write_faults given_byte
       → IfOk result (λ answer. answer.status ≡ status.Done)
       → IfOk result (λ answer. PlanWritten names problem answer.line.items (files mid) (files new))
       → IfOk result (λ answer. IsSome (files mid) → problem_at names (files mid) ≡ Ok problem
-          → AcceptsWith names (files new) answer.line.items)
+      → AcceptsWith names (files new) answer.line.items)
       → (IsErrOf result halt.WriteFault → PlanPartWritten names problem (files mid) (files new))
       → (IsErrOf result halt.WriteFault → SomeRose (written_names names) (write_faults mid)
-          (write_faults new))
+      (write_faults new))
       → (IsErrOf result halt.ReadFault → ⊥)
       → (IsErr result → IsErrOf result halt.WriteFault ⊎ (files new ≡ files mid))
       → Later read_faults write_faults given_bytes mid new
       → Runs (plan_meaning names) files read_faults write_faults given_bytes old new result
   planned {mid} names problem (Ok answer) stands only done written accepted part rose none same later =
       record {
-    ends = inl (record {
-      has = (problem.hyper, verdict_alone problem written.plan, answer_is (seen answer) problem names
-          (files mid) (files new) done written);
-      not_refused = λ h. let e : status.Done ≡ status.Refused = sym done ∙ h in cc;
-      stand = λ told. ap (λ (r : Result Parts Refusal). option_map refused_line (result_err r)) (stands told);
-      answers = λ told. is_plan_answer names (files old) (files mid) (files new) problem (seen answer)
-          (stands told) done written;
-      leaves = λ told. is_planned names (files old) (files mid) (files new) problem answer.line.items
-          (stands told) only.same written;
-      shows = λ told. accepted (subst IsSome (sym only.same) told)
-          (ap (problem_at names) only.same ∙ stands told);
-      kept = λ h. let e : status.Done ≡ status.Rejected = sym done ∙ h in cc;
-    });
-    read_fault = λ h. cc;
-    write_fault = λ h. cc;
-    part = λ h. cc;
-    same = λ h. cc;
-    idle = λ h. cc;
-    later = later_trans only.later later;
-  }
+        ends = inl (record {
+          has = (
+            problem.hyper,
+            verdict_alone problem written.plan,
+            answer_is (seen answer) problem names
+                (files mid) (files new) done written,
+          );
+          not_refused = λ h. let e : status.Done ≡ status.Refused = sym done ∙ h in cc;
+          stand = λ told. ap (λ (r : Result Parts Refusal). option_map refused_line (result_err r)) (stands told);
+          answers = λ told. is_plan_answer names (files old) (files mid) (files new) problem (seen answer)
+              (stands told) done written;
+          leaves = λ told. is_planned names (files old) (files mid) (files new) problem answer.line.items
+              (stands told) only.same written;
+          shows = λ told. accepted (subst IsSome (sym only.same) told)
+              (ap (problem_at names) only.same ∙ stands told);
+          kept = λ h. let e : status.Done ≡ status.Rejected = sym done ∙ h in cc;
+        });
+        read_fault = λ h. cc;
+        write_fault = λ h. cc;
+        part = λ h. cc;
+        same = λ h. cc;
+        idle = λ h. cc;
+        later = later_trans only.later later;
+      }
   planned {mid} names problem (Err why) stands only done written accepted part rose none same later = record {
     ends = tt;
     read_fault = λ h. absurd (none h);
@@ -186,10 +195,10 @@ module _ {F : Type 0} {files : F → Files} {read_faults write_faults given_byte
   }
 
   -- a command that ran with equal names
-  pub renamed : (meaning : Names → Meaning) (names same : Names) (result : Result GivenAnswer Halt)
+  pub renamed : {N : Type 0} (meaning : N → Meaning) (names same : N) (result : Result GivenAnswer Halt)
       → names ≡ same
       → Runs (meaning names) files read_faults write_faults given_bytes old new result → Runs
-          (meaning same) files read_faults write_faults given_bytes old new result
+      (meaning same) files read_faults write_faults given_bytes old new result
   renamed meaning names same result is runs = subst (λ n. Runs
       (meaning n) files read_faults write_faults given_bytes old new result) is runs
 

@@ -40,7 +40,7 @@ Accepts names files = IsOkAnd (texts_at names files) IsAccepted
 abbrev pub AcceptsWith : Names → Files → List ℕ → Type 0
 AcceptsWith names files line = IsOkAnd (texts_at names files)
     (λ judged. (shown : Verdict) × Finds (found.Shown shown) judged
-        × (line ≡ verdict_line judged.problem.hyper shown))
+    × (line ≡ verdict_line judged.problem.hyper shown))
 
 -- the texts stand, and some part of the acceptance rule is the first that doesn't hold
 abbrev pub Rejects : Names → Files → Type 0

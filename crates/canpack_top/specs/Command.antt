@@ -1,10 +1,11 @@
 -- The words of a command.
-use Rattle.std.specs.Prelude.{◌&&◌, ◌==◌, ℕ, Bool, List, [], length, map, not, codes, Option, None, Some, if◌then◌else◌, option_map, slice_index_or, String}
+use Rattle.std.specs.Prelude.{◌&&◌, ◌==◌, ◌≤◌, IsTrue, ℕ, Bool, List, [], length, map, not, codes, Option, None, Some, if◌then◌else◌, option_map, slice_index_or, String}
 use Rattle.std.specs.String.{string_bytes}
 use Rattle.std.specs.declared.alloc.Global.{Global}
 use Rattle.std.specs.Str.{bytes_eq}
 use Rattle.csv_table.specs.Decimal.{decimal_of}
 use Rattle.canpack_top.specs.declared.command.Names.{Names as GivenNames}
+use Rattle.canpack_top.specs.declared.command.CaseNames.{CaseNames as GivenCaseNames}
 use Rattle.canpack_top.specs.declared.command.Command.{Command}
 use Rattle.canpack_top.specs.declared.command.Command.TheVariants as command
 
@@ -44,10 +45,46 @@ plan_of words =
     then option_map (λ branches. command.PlanFiles branches 1) (decimal_of 1 1000000 (word words 5))
     else None
 
+-- The two files that a generated case is written to.
+pub record CaseNames : Type 0 where
+  pub network : List ℕ
+  pub signals : List ℕ
+
+-- no name is empty, and they differ
+abbrev pub are_case_names : CaseNames → Bool
+are_case_names n = not (length n.network == 0) && not (length n.signals == 0) && not (bytes_eq n.network n.signals)
+
+-- the names in the third and the fourth word
+abbrev pub case_names_in : List (String Global) → CaseNames
+case_names_in words = record { network = word words 2; signals = word words 3 }
+
+-- the command of four words: `make` with a number from 0 to 1000000 and its two files
+abbrev pub make_of : List (String Global) → Option Command
+make_of words =
+    if bytes_eq (word words 0) (codes "make") && are_case_names (case_names_in words)
+    then option_map (λ number. command.MakeFiles number) (decimal_of 0 1000000 (word words 1))
+    else None
+
 -- the command of the words, where they are the line of one
 abbrev pub command_of : List (String Global) → Option Command
-command_of words = if length words == 6 then check_of words else if length words == 7 then plan_of words else None
+command_of words =
+    if length words == 4 then make_of words
+    else if length words == 6 then check_of words
+    else if length words == 7 then plan_of words
+    else None
+
+-- the words name the files of a command, and its numbers are in their ranges
+abbrev pub HasNames : List (String Global) → Command → Type 0
+HasNames words (command.CheckFiles workers) = (6 ≤ length words) × IsTrue (are_names (names_in words))
+HasNames words (command.PlanFiles branches workers) =
+    (6 ≤ length words) × IsTrue (are_names (names_in words)) × (1 ≤ branches) × (branches ≤ 1000000)
+HasNames words (command.MakeFiles number) =
+    (4 ≤ length words) × IsTrue (are_case_names (case_names_in words)) × (number ≤ 1000000)
 
 -- the names that the code holds
 abbrev pub names_of : GivenNames → Names
 names_of n = record { network = n.network.now; signals = n.signals.now; matrix = n.matrix.now; cert = n.cert.now }
+
+-- the two names that the code holds
+abbrev pub case_names_of : GivenCaseNames → CaseNames
+case_names_of n = record { network = n.network.now; signals = n.signals.now }

@@ -4,7 +4,8 @@ use Rattle.std.specs.declared.alloc.Global.{Global}
 use Rattle.canpack_top.specs.declared.command.Command.{Command}
 use Rattle.canpack_top.specs.declared.command.Command.TheVariants as command
 use Rattle.canpack_top.specs.Check.{check_meaning}
-use Rattle.canpack_top.specs.Command.{command_of, names_in}
+use Rattle.canpack_top.specs.Command.{case_names_in, command_of, names_in}
+use Rattle.canpack_top.specs.Make.{make_meaning}
 use Rattle.canpack_top.specs.Meaning.{Meaning}
 use Rattle.canpack_top.specs.Plan.{plan_meaning}
 
@@ -12,6 +13,7 @@ use Rattle.canpack_top.specs.Plan.{plan_meaning}
 abbrev pub meaning_of : Command → List (String Global) → Meaning
 meaning_of (command.CheckFiles workers) words = check_meaning (names_in words)
 meaning_of (command.PlanFiles branches workers) words = plan_meaning (names_in words)
+meaning_of (command.MakeFiles number) words = make_meaning number (case_names_in words)
 
 -- the words are the line of a command, and this is so of its meaning
 abbrev pub OfCommand : List (String Global) → (Meaning → Type 0) → Type 0
@@ -24,3 +26,7 @@ IsCheck words = (workers : ℕ) × (command_of words ≡ Some (command.CheckFile
 -- the words are the line of `plan`
 abbrev pub IsPlan : List (String Global) → Type 0
 IsPlan words = (branches : ℕ) × (workers : ℕ) × (command_of words ≡ Some (command.PlanFiles branches workers))
+
+-- the words are the line of `make`, with the case of this number
+abbrev pub IsMake : ℕ → List (String Global) → Type 0
+IsMake number words = command_of words ≡ Some (command.MakeFiles number)

@@ -10,5 +10,6 @@ pub mod Verdict
 pub mod Check
 pub mod Headline
 pub mod Plan
+pub mod Make
 pub mod Commands
 pub mod Answer

@@ -1,6 +1,18 @@
 //! The words of a command.
-ghost use Rattle.std.specs.Prelude.{◌≡◌, ◌≤◌, None, Some, IsSome, IsTrue, length, true, false};
-ghost use Rattle.canpack_top.specs.Command.{are_names, check_of, command_of, names_in, names_of, plan_of};
+ghost use Rattle.std.specs.Prelude.{◌≡◌, ◌≤◌, None, Some, IfSome, length, true, false};
+ghost use Rattle.canpack_top.specs.Command.{
+  HasNames,
+  are_case_names,
+  are_names,
+  case_names_in,
+  case_names_of,
+  check_of,
+  command_of,
+  make_of,
+  names_in,
+  names_of,
+  plan_of,
+};
 
 use csv_table::decimal_in;
 
@@ -13,6 +25,13 @@ pub struct Names<'a> {
     pub cert: &'a str,
 }
 
+/// The two files of a generated case that the words name.
+#[derive(Clone, Copy, Debug)]
+pub struct CaseNames<'a> {
+    pub network: &'a str,
+    pub signals: &'a str,
+}
+
 /// What the words ask for, beside the files that they name.
 #[derive(Clone, Copy, Debug, PartialEq, Eq)]
 pub enum Command {
@@ -20,6 +39,8 @@ pub enum Command {
     CheckFiles { workers: u32 },
     /// Plans a matrix within so many branches, 1 to 1000000, by so many workers: 1 so far.
     PlanFiles { branches: u64, workers: u32 },
+    /// Writes the generated case of this number, 0 to 1000000.
+    MakeFiles { number: u32 },
 }
 
 /// Whether no name is empty and no two are equal.
@@ -65,10 +86,37 @@ fn has_names(words: &[String]) -> bool
     are_names(names_in(words))
 }
 
+/// Whether neither name is empty and they differ.
+fn are_case_names(names: CaseNames<'_>) -> bool
+    ensures { result ≡ are_case_names (case_names_of names.entry) }
+{
+    let CaseNames { network, signals } = names;
+    !network.is_empty() && !signals.is_empty() && network != signals
+}
+
+/// The two files in the third and the fourth word.
+pub fn case_names_in(words: &[String]) -> CaseNames<'_>
+    requires { 4 ≤ length words.now }
+    ensures { case_names_of result ≡ case_names_in words.now }
+{
+    CaseNames {
+        network: words[2].as_str(),
+        signals: words[3].as_str(),
+    }
+}
+
+/// Whether the third and the fourth word name the two files of a case.
+fn has_case_names(words: &[String]) -> bool
+    requires { 4 ≤ length words.now }
+    ensures { result ≡ are_case_names (case_names_in words.now) }
+{
+    are_case_names(case_names_in(words))
+}
+
 fn check_of(words: &[String]) -> Option<Command>
     requires { length words.now ≡ 6 }
     ensures exact { result ≡ check_of words.now }
-    ensures names { IsSome result → IsTrue (are_names (names_in words.now)) }
+    ensures names { IfSome result (HasNames words.now) }
 {
     if words[0].as_str() == "check" && words[5].as_str() == "1" && has_names(words) {
         Some(Command::CheckFiles { workers: 1 })
@@ -80,7 +128,7 @@ fn check_of(words: &[String]) -> Option<Command>
 fn plan_of(words: &[String]) -> Option<Command>
     requires { length words.now ≡ 7 }
     ensures exact { result ≡ plan_of words.now }
-    ensures names { IsSome result → IsTrue (are_names (names_in words.now)) }
+    ensures names { IfSome result (HasNames words.now) }
 {
     if words[0].as_str() != "plan" || words[6].as_str() != "1" || !has_names(words) {
         return None;
@@ -94,14 +142,30 @@ fn plan_of(words: &[String]) -> Option<Command>
     }
 }
 
+fn make_of(words: &[String]) -> Option<Command>
+    requires { length words.now ≡ 4 }
+    ensures exact { result ≡ make_of words.now }
+    ensures names { IfSome result (HasNames words.now) }
+{
+    if words[0].as_str() != "make" || !has_case_names(words) {
+        return None;
+    }
+    match decimal_in(words[1].as_bytes(), 0, 1_000_000) {
+        Some(number) => Some(Command::MakeFiles {
+            number: number as u32,
+        }),
+        None => None,
+    }
+}
+
 /// The command of the words that follow the program's name, or `None` where they are the line of no command that
 /// is built.
 pub fn command_of(words: &[String]) -> Option<Command>
     ensures exact { result ≡ command_of words.now }
-    ensures count { IsSome result → 6 ≤ length words.now }
-    ensures names { IsSome result → IsTrue (are_names (names_in words.now)) }
+    ensures names { IfSome result (HasNames words.now) }
 {
     match words.len() {
+        4 => make_of(words),
         6 => check_of(words),
         7 => plan_of(words),
         _ => None,

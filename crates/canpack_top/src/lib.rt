@@ -9,6 +9,7 @@ mod command;
 mod ending;
 mod files;
 mod line;
+mod make;
 mod plan;
 mod planning;
 mod problem;

@@ -4,7 +4,7 @@ ghost use Rattle.pack_base.specs.Outside.{Later};
 ghost use Rattle.canpack_top.specs.Check.{AcceptsWith};
 ghost use Rattle.canpack_top.specs.Command.{are_names, names_of};
 ghost use Rattle.canpack_top.specs.Files.{problem_at};
-ghost use Rattle.canpack_top.specs.Meaning.{Runs, seen};
+ghost use Rattle.canpack_top.specs.Meaning.{Runs};
 ghost use Rattle.canpack_top.specs.Plan.{PlanPartWritten, PlanWritten, plan_meaning};
 ghost use Rattle.canpack_top.specs.Reads.{SomeRose, written_names};
 ghost use Rattle.canpack_top.specs.declared.ending.Status.TheVariants as status;

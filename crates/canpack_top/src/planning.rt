@@ -1,5 +1,5 @@
 //! The texts and the line of a plan, made before anything is written.
-ghost use Rattle.std.specs.Prelude.{◌≡◌, IfOk, ⊤};
+ghost use Rattle.std.specs.Prelude.{IfOk};
 ghost use Rattle.canpack_top.specs.Plan.{AreMade, IsMade};
 
 use crate::verdict::{Found, found_line};

@@ -1,5 +1,5 @@
 //! The top call.
-ghost use Rattle.std.specs.Prelude.{◌≡◌, ◌≢◌, ◌⊎◌, ◌≤◌, [], IsSome, IsNone, IsOk};
+ghost use Rattle.std.specs.Prelude.{◌≡◌, ◌≢◌, ◌⊎◌, ◌≤◌, ℕ, [], IsSome, IsNone, IsOk};
 ghost use Rattle.pack_base.specs.Counts.{Rose};
 ghost use Rattle.pack_base.specs.Outside.{Later, SaidPart, and_said};
 ghost use Rattle.canpack_top.specs.Answer.{
@@ -22,11 +22,12 @@ ghost use Rattle.canpack_top.specs.Check.{
   Rejects,
   texts_at,
 };
-ghost use Rattle.canpack_top.specs.Command.{command_of, names_in};
-ghost use Rattle.canpack_top.specs.Commands.{IsCheck, IsPlan, OfCommand};
+ghost use Rattle.canpack_top.specs.Command.{case_names_in, command_of, names_in};
+ghost use Rattle.canpack_top.specs.Commands.{IsCheck, IsMake, IsPlan, OfCommand};
 ghost use Rattle.canpack_top.specs.Files.{problem_at};
 ghost use Rattle.canpack_top.specs.Headline.{Headline};
 ghost use Rattle.canpack_top.specs.Line.{usage_line};
+ghost use Rattle.canpack_top.specs.Make.{CaseWritten, HasCase, case_line};
 ghost use Rattle.canpack_top.specs.Plan.{IsPlanned};
 ghost use Rattle.canpack_top.specs.Reads.{SomeRose};
 
@@ -160,6 +161,17 @@ pub fn canpack<R: Threads, F: Folder, O: Sink, G: Gate + Sync>(
     ensures plans { IsSome (F.files folder.old) → IsPlan words.now
         → IsOk (problem_at (names_in words.now) (F.files folder.old))
         → (result ≡ 0) ⊎ IsExcused result }
+
+    // `make` leaves exactly the two texts of the generated case, which are read as it, and says its line; it fails
+    // only by a write, by saying, or by want of memory.
+    ensures case_written { result ≡ 0 → IsSome (F.files folder.old) → (number : ℕ) → IsMake number words.now
+        → CaseWritten number (case_names_in words.now) (F.files folder.old) (F.files folder.new) }
+    ensures case_reads { result ≡ 0 → IsSome (F.files folder.old) → (number : ℕ) → IsMake number words.now
+        → HasCase number (case_names_in words.now) (F.files folder.new) }
+    ensures case_said { result ≡ 0 → (number : ℕ) → IsMake number words.now
+        → O.said out.new ≡ and_said (O.said out.old) (case_line number) }
+    ensures makes { IsSome (F.files folder.old) → (number : ℕ) → IsMake number words.now
+        → (result ≡ 0) ⊎ (result ≡ 3) ⊎ (result ≡ 6) ⊎ (result ≡ 7) }
 {
     status_of(alloc, words, folder, out)
 }

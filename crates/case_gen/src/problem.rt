@@ -7,7 +7,8 @@ use crate::generate::make_case;
 use pack_model::{Memory, Problem, ProblemFault, problem_of};
 use std::alloc::Global;
 
-/// The law that no case is refused: it is a problem, of at most 32 signals and a common period of at most 8000000 ticks.
+/// The law that no case is refused: it is a problem, of at most 32 signals and a common period of at most
+/// 8000000 ticks.
 pub fn case_stands(number: u32)
     ensures { CaseStands number }
 {}

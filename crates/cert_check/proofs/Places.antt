@@ -1,5 +1,5 @@
 -- The classes at the place of a walk as frames.
-use Rattle.std.proofs.Common.{◌≡◌, ◌≤◌, ◌<◌, ◌^◌, List, All, sym, subst, arith}
+use Rattle.std.proofs.Common.{◌≡◌, ◌≤◌, List, All, sym, subst, arith}
 use Rattle.pack_model.specs.Problem.{Parts}
 use Rattle.pack_model.proofs.Laws.{tests}
 use Rattle.busy_period.specs.declared.timed.Timed.{Timed}
@@ -13,10 +13,8 @@ use Rattle.grouping_tree.specs.Grouped.{Belongs, labels_of, range_of}
 use Rattle.grouping_tree.specs.Partial.{IsPartial}
 use Rattle.grouping_tree.specs.declared.partial.Partial.{Partial}
 use Rattle.grouping_tree.proofs.Used.{classes_low}
-use Rattle.bandwidth_bound.specs.Bounds.{lower8_of}
 use Rattle.bandwidth_bound.proofs.Extend.{are_items, first_labels}
 use Rattle.bandwidth_bound.proofs.Final.{all_items, frames_in_range}
-use Rattle.bandwidth_bound.proofs.Loads.{loads_fit}
 
 module _ (problem : Parts) (partial : Partial) (belongs : Belongs problem partial)
     (whole : range_of problem partial ≡ problem.items) where
@@ -33,12 +31,6 @@ module _ (problem : Parts) (partial : Partial) (belongs : Belongs problem partia
         legal.within,
         (tests problem belongs.stands).few_items,
       )
-
-  -- the bound is low
-  pub bound_low : lower8_of problem problem.items (labels_of partial) < 2 ^ 128
-  bound_low =
-      loads_fit problem belongs.stands problem.items (all_items problem) (labels_of partial) legal
-      (omega (arith, legal.within, (tests problem belongs.stands).few_items))
 
   -- the frames are those of the response-time test
   module _ (frames : List Timed)

@@ -17,4 +17,6 @@ mod walk;
 pub use bandwidth_bound::Verdict;
 pub use check::check_cert;
 pub use fault::CheckFault;
-pub use walk::{Aim, Walk};
+
+#[cfg(test)]
+mod tests;

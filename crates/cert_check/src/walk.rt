@@ -7,7 +7,7 @@ ghost use Rattle.cert_check.specs.Nodes.{lowered, inner_node, bound_leaf, open_l
 ghost use Rattle.cert_check.specs.Walk.{HasPlace, IsWalk, Passes, StandsNext, TakesOne, start, way_of};
 
 use crate::frames::frames_at;
-use bandwidth_bound::refutes;
+use bandwidth_bound::{lower8, refutes};
 use grouping_tree::Partial;
 use pack_model::{Memory, Problem};
 use response_test::Evidence;
@@ -87,7 +87,7 @@ impl Walk {
         requires { IsWalk problem.now self.now }
         ensures { result ≡ lower8_of problem.now problem.now.items (labels_of self.now.partial) }
     {
-        8 * self.partial.kept_load()
+        lower8(&self.partial, problem)
     }
 
     /// Whether the classes that are named with evidence are refuted at the place.

@@ -12,9 +12,9 @@ use busy_period::Timed;
 use pack_model::{Memory, Problem};
 use std::alloc::Global;
 
-/// The classes as frames, by label. The labels are those of the problem's first items, all of them or fewer, and make so
-/// many classes. Each order of the classes is one of stages of the response-time test, a nominal bit is a bit of the
-/// frames, and the problem's common period is one of theirs.
+/// The classes as frames, by label. The labels are those of the problem's first items, all of them or fewer,
+/// and make so many classes. Each order of the classes is one of stages of the response-time test, a nominal
+/// bit is a bit of the frames, and the problem's common period is one of theirs.
 pub fn class_frames(
     alloc: Global,
     problem: &Problem,
@@ -23,11 +23,13 @@ pub fn class_frames(
 ) -> Result<Vec<Timed>, Memory>
     requires labels { AreFirstLabels problem.now.items labels.now }
     requires classes { classes ≡ classes_of labels.now }
-    ensures value { IfOk result (λ frames. frames.items ≡ frames_of_classes problem.now problem.now.items labels.now) }
+    ensures value { IfOk result (λ frames. frames.items ≡ frames_of_classes problem.now problem.now.items
+        labels.now) }
     ensures in_range { IfOk result (λ frames. All IsInRange frames.items) }
     ensures count { IfOk result (λ frames. length frames.items ≡ classes_of labels.now) }
     ensures few { IfOk result (λ frames. length frames.items ≤ 128) }
-    ensures stages { IfOk result (λ frames. (order : List ℕ) (place : ℕ) → IsOrder labels.now order → place < length order
+    ensures stages { IfOk result (λ frames. (order : List ℕ) (place : ℕ) → IsOrder labels.now order
+        → place < length order
         → IsStage frames.items order place) }
     ensures bit { IfOk result (λ frames. IsBit frames.items problem.now.network.nominal_ticks) }
     ensures common { IfOk result (λ frames. IsCommon frames.items problem.now.hyper) }

@@ -1,8 +1,9 @@
-//! A class of items as a frame: legal groupings, and the bytes, size, weight, times, ticks and load of a class.
+//! A class of items as a frame: legal groupings, and the bytes, size, weight, times, ticks and load of a
+//! class.
 //!
-//! The one contract that upper crates use is that of [`Sums`]: the sums of two lists of items, one after the other, are
-//! the join of their sums, and the sums of a class say what its frame is. [`class_frames`] gives the frames of all classes
-//! for the response-time test; no other call takes memory.
+//! The one contract that upper crates use is that of [`Sums`]: the sums of two lists of items, one after the
+//! other, are the join of their sums, and the sums of a class say what its frame is. [`class_frames`] gives
+//! the frames of all classes for the response-time test; no other call takes memory.
 #![tactic(auto)]
 
 mod classes;

@@ -13,3 +13,6 @@ pub use laws::{
     next_is_option, options_are_legal, options_ascend,
 };
 pub use partial::{Kept, Partial};
+
+#[cfg(test)]
+mod tests;

@@ -57,17 +57,24 @@ ranged low high (Some n) = by (nat_le low n && nat_le n high) refl
         record { above = leb-true _ _ p.0; below = leb-true _ _ p.1 }
     by false e = tt
 
-found : (low high k : ℕ) (o : Option ℕ) → IfSome o (Within low high) → IfOk (or_error (bad_member k) o) (Within low high)
+found : (low high k : ℕ) (o : Option ℕ) → IfSome o (Within low high)
+    → IfOk (or_error (bad_member k) o) (Within low high)
 found low high k None h = tt
 found low high k (Some n) h = h
 
-member_within : (low high k : ℕ) (name : List ℕ) (value : Data) → IfOk (member_in low high k name value) (Within low high)
-member_within low high k name value = found low high k _ (ranged low high (option_and_then as_u64 (option_and_then as_number (get name value))))
+member_within : (low high k : ℕ) (name : List ℕ) (value : Data)
+    → IfOk (member_in low high k name value) (Within low high)
+member_within low high k name value =
+    found low high k _ (ranged low high (option_and_then as_u64 (option_and_then as_number (get name value))))
 
 -- the members together
-members_stand : {A : Type 0} (object : Result A NetworkRefusal) (version ticks nominal : Result ℕ NetworkRefusal) (bit : ℕ → Result ℕ NetworkRefusal) (first : Result ℕ NetworkRefusal) (count : A → Result ℕ NetworkRefusal)
-    → IfOk ticks (Within 1 1000) → IfOk nominal (Within 1 10000) → ((n : ℕ) → IfOk (bit n) (Within 1 n)) → IfOk first (Within 0 1920)
-    → IfOk (object >>= λ o. version >>= λ v. ticks >>= λ t. nominal >>= λ n. bit n >>= λ d. first >>= λ f. count o >>= λ c.
+members_stand : {A : Type 0} (object : Result A NetworkRefusal)
+    (version ticks nominal : Result ℕ NetworkRefusal) (bit : ℕ → Result ℕ NetworkRefusal)
+    (first : Result ℕ NetworkRefusal) (count : A → Result ℕ NetworkRefusal)
+    → IfOk ticks (Within 1 1000) → IfOk nominal (Within 1 10000) → ((n : ℕ) → IfOk (bit n) (Within 1 n))
+    → IfOk first (Within 0 1920)
+    → IfOk (object >>= λ o. version >>= λ v. ticks >>= λ t. nominal >>= λ n. bit
+    n >>= λ d. first >>= λ f. count o >>= λ c.
     Ok (record { ticks_per_us = t; nominal_ticks = n; data_ticks = d; first_id = f })) NetworkStands
 members_stand (Err e) version ticks nominal bit first count ht hn hd hf = tt
 members_stand (Ok o) (Err e) ticks nominal bit first count ht hn hd hf = tt
@@ -76,7 +83,8 @@ members_stand (Ok o) (Ok v) (Ok t) (Err e) bit first count ht hn hd hf = tt
 members_stand (Ok o) (Ok v) (Ok t) (Ok n) bit first count ht hn hd hf = by (bit n) first (count o) (hd n) hf
   where
     by : (d f c : Result ℕ NetworkRefusal) → IfOk d (Within 1 n) → IfOk f (Within 0 1920)
-        → IfOk (d >>= λ d. f >>= λ f. c >>= λ c. Ok (record { ticks_per_us = t; nominal_ticks = n; data_ticks = d; first_id = f })) NetworkStands
+        → IfOk (d >>= λ d. f >>= λ f. c >>= λ c. Ok
+        (record { ticks_per_us = t; nominal_ticks = n; data_ticks = d; first_id = f })) NetworkStands
     by (Err e) f c hd hf = tt
     by (Ok d) (Err e) c hd hf = tt
     by (Ok d) (Ok f) (Err e) hd hf = tt
@@ -92,17 +100,22 @@ members_stand (Ok o) (Ok v) (Ok t) (Ok n) bit first count ht hn hd hf = by (bit 
 
 network_stands : (value : Data) → IfOk (network_in value) NetworkStands
 network_stands value =
-    members_stand (or_error (bad_member 0) (as_object value)) (member_in 1 1 1 (codes "version") value) (member_in 1 1000 2 (codes "ticks_per_us") value) (member_in 1 10000 3 (codes "nominal_ticks") value)
-    (λ nominal. member_in 1 nominal 4 (codes "data_ticks") value) (member_in 0 1920 5 (codes "first_id") value) (none_further 5)
-    (member_within 1 1000 2 (codes "ticks_per_us") value) (member_within 1 10000 3 (codes "nominal_ticks") value)
-    (λ nominal. member_within 1 nominal 4 (codes "data_ticks") value) (member_within 0 1920 5 (codes "first_id") value)
+    members_stand (or_error (bad_member 0) (as_object value)) (member_in 1 1 1 (codes "version") value)
+    (member_in 1 1000 2 (codes "ticks_per_us") value) (member_in 1 10000 3 (codes "nominal_ticks") value)
+    (λ nominal. member_in 1 nominal 4 (codes "data_ticks") value)
+    (member_in 0 1920 5 (codes "first_id") value) (none_further 5)
+    (member_within 1 1000 2 (codes "ticks_per_us") value)
+    (member_within 1 10000 3 (codes "nominal_ticks") value)
+    (λ nominal. member_within 1 nominal 4 (codes "data_ticks") value)
+    (member_within 0 1920 5 (codes "first_id") value)
 
 text_stands : (o : Option Data) → IfOk (or_error not_json o >>= network_in) NetworkStands
 text_stands None = tt
 text_stands (Some value) = network_stands value
 
 -- what a reader that is exact returned stands
-pub read_stands : (text : List ℕ) (r : Result Network NetworkFault) → Gives (λ x. x) network_refusal r (network_of text) → IfOk r NetworkStands
+pub read_stands : (text : List ℕ) (r : Result Network NetworkFault)
+    → Gives (λ x. x) network_refusal r (network_of text) → IfOk r NetworkStands
 read_stands text (Err e) h = tt
 read_stands text (Ok n) h = by (network_of text) h (text_stands (value_in text))
   where
@@ -115,14 +128,16 @@ read_stands text (Ok n) h = by (network_of text) h (text_stands (value_in text))
 -- ---- what `serde_json` reads
 
 -- a value that was read
-pub value_read : (text stripped : List ℕ) (value : Data) → stripped ≡ strip_bom text → IsUtf8 stripped → read stripped ≡ Some value → or_error not_json (value_in text) ≡ Ok value
+pub value_read : (text stripped : List ℕ) (value : Data) → stripped ≡ strip_bom text → IsUtf8 stripped
+    → read stripped ≡ Some value → or_error not_json (value_in text) ≡ Ok value
 value_read text stripped value e utf8 found =
     let is : is_utf8 (strip_bom text) ≡ true = is_utf8-from_IsUtf8 (strip_bom text) (subst IsUtf8 e utf8) in
     let value-is : read (strip_bom text) ≡ Some value = rw e at found in
     rw (is, value-is) refl
 
 -- a text that has none
-pub value_refused : (text stripped : List ℕ) → stripped ≡ strip_bom text → (IsUtf8 stripped → read stripped ≡ None) → or_error not_json (value_in text) ≡ Err not_json
+pub value_refused : (text stripped : List ℕ) → stripped ≡ strip_bom text
+    → (IsUtf8 stripped → read stripped ≡ None) → or_error not_json (value_in text) ≡ Err not_json
 value_refused text stripped e none =
     elim (cases_Bool (is_utf8 (strip_bom text))) [
       | inl is ↦

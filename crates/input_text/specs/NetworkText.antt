@@ -1,4 +1,5 @@
--- The text of a network (NETWORK), the project's own format: one JSON object (RFC 8259) as `serde_json` reads it.
+-- The text of a network (NETWORK), the project's own format: one JSON object (RFC 8259) as `serde_json` reads
+-- it.
 use Rattle.std.specs.Prelude.{◌≡◌, ℕ, ◌==◌, ◌&&◌, ◌++◌, List, codes, decimal, nat_le, Option, Some, None, option_and_then, Result, Ok, Err, if◌then◌else◌}
 use Rattle.std.specs.Str.{is_utf8}
 use Rattle.csv.specs.Reading.{strip_bom}
@@ -11,8 +12,8 @@ use Rattle.csv_table.specs.Columns.{◌>>=◌, or_error}
 use Rattle.input_text.specs.declared.network.NetworkFault.{NetworkFault}
 use Rattle.input_text.specs.declared.network.NetworkFault.TheVariants as fault
 
--- why a text has no network: it is no JSON, or the least of these members is at fault: 0 it is no object, 1 `version`,
--- 2 `ticks_per_us`, 3 `nominal_ticks`, 4 `data_ticks`, 5 `first_id`, 6 there is a further member
+-- why a text has no network: it is no JSON, or the least of these members is at fault: 0 it is no object, 1
+-- `version`, 2 `ticks_per_us`, 3 `nominal_ticks`, 4 `data_ticks`, 5 `first_id`, 6 there is a further member
 pub data NetworkRefusal : Type 0 where
   not_json : NetworkRefusal
   bad_member : ℕ → NetworkRefusal
@@ -28,7 +29,9 @@ in_range low high (Some n) = if nat_le low n && nat_le n high then Some n else N
 
 -- the number of a member
 abbrev pub member_in : ℕ → ℕ → ℕ → List ℕ → Data → Result ℕ NetworkRefusal
-member_in low high k name value = or_error (bad_member k) (in_range low high (option_and_then as_u64 (option_and_then as_number (get name value))))
+member_in low high k name value =
+    or_error (bad_member k) (in_range low high
+    (option_and_then as_u64 (option_and_then as_number (get name value))))
 
 -- there is no further member
 abbrev pub none_further : ℕ → Members → Result ℕ NetworkRefusal
@@ -63,5 +66,7 @@ network_refusal fault.Memory = None
 -- the text that is written for a network: one line
 abbrev pub network_text : Network → List ℕ
 network_text n =
-    codes "{\"version\":1,\"ticks_per_us\":" ++ (decimal n.ticks_per_us ++ (codes ",\"nominal_ticks\":" ++ (decimal n.nominal_ticks
-    ++ (codes ",\"data_ticks\":" ++ (decimal n.data_ticks ++ (codes ",\"first_id\":" ++ (decimal n.first_id ++ codes "}\n")))))))
+    codes "{\"version\":1,\"ticks_per_us\":"
+    ++ (decimal n.ticks_per_us ++ (codes ",\"nominal_ticks\":" ++ (decimal n.nominal_ticks
+    ++ (codes ",\"data_ticks\":"
+    ++ (decimal n.data_ticks ++ (codes ",\"first_id\":" ++ (decimal n.first_id ++ codes "}\n")))))))

@@ -1,5 +1,6 @@
 -- The text of signals (SIGNALS), the project's own format: CSV as RFC 4180 has it, read by `csv`'s rules.
 use Rattle.std.specs.Prelude.{◌≡◌, ℕ, ◌+◌, ◌==◌, ◌∷◌, [], List, codes, decimal, drop, map, Option, Some, None, unwrap_or, Result, Ok, Err, if◌then◌else◌}
+use Rattle.pack_model.specs.declared.problem.TheConstants.{MAX_SIGNALS}
 use Rattle.pack_model.specs.declared.signal.Signal.{Signal}
 use Rattle.csv_table.specs.Columns.{◌>>=◌, begins_with, in_row, count_in, name_in, number_in, optional_in}
 use Rattle.csv_table.specs.Rows.{rows_of}
@@ -7,7 +8,8 @@ use Rattle.csv_table.specs.Writing.{optional_text, rows_text}
 use Rattle.input_text.specs.declared.signals.SignalsFault.{SignalsFault}
 use Rattle.input_text.specs.declared.signals.SignalsFault.TheVariants as fault
 
--- why a text has no signals: its first row is not the header, a row's column breaks its rule, or there are more than 2048
+-- why a text has no signals: its first row is not the header, a row's column breaks its rule, or there are
+-- more than 2048
 pub data SignalsRefusal : Type 0 where
   bad_header : SignalsRefusal
   bad_row : ℕ → ℕ → SignalsRefusal
@@ -16,7 +18,8 @@ pub data SignalsRefusal : Type 0 where
 -- the header, which is row 1
 abbrev pub signals_header : List (List ℕ)
 signals_header =
-    codes "signal" ∷ codes "sender" ∷ codes "pdu" ∷ codes "bits" ∷ codes "period_us" ∷ codes "deadline_us" ∷ codes "jitter_us" ∷ []
+    codes "signal" ∷ codes "sender" ∷ codes "pdu" ∷ codes "bits"
+    ∷ codes "period_us" ∷ codes "deadline_us" ∷ codes "jitter_us" ∷ []
 
 -- the signal of a record, or the least column that breaks its rule; column 0 is the count of fields
 abbrev pub signal_of : List (List ℕ) → Result Signal ℕ
@@ -39,10 +42,10 @@ signal_of fields = do
     jitter_us = unwrap_or jitter 0;
   })
 
--- the signals of the records from row n on; a record in row 2050 is one too many, whatever its columns
+-- the signals of the records from row n on; a record that is one too many is refused, whatever its columns
 abbrev pub signals_from : ℕ → List (List (List ℕ)) → Result (List Signal) SignalsRefusal
 signals_from n [] = Ok []
-signals_from n (row ∷ rows) = if n == 2050 then Err too_many else (do
+signals_from n (row ∷ rows) = if n == MAX_SIGNALS + 2 then Err too_many else (do
   signal ← in_row bad_row n (signal_of row)
   signals ← signals_from (n + 1) rows
   Ok (signal ∷ signals))
@@ -69,7 +72,8 @@ signals_refusal fault.Memory = None
 -- the fields of a signal as they are written
 abbrev pub signal_fields : Signal → List (List ℕ)
 signal_fields s =
-    s.name ∷ s.sender ∷ optional_text s.pdu ∷ decimal s.bits ∷ decimal s.period_us ∷ decimal s.deadline_us ∷ decimal s.jitter_us ∷ []
+    s.name ∷ s.sender ∷ optional_text s.pdu ∷ decimal s.bits ∷ decimal s.period_us ∷ decimal
+    s.deadline_us ∷ decimal s.jitter_us ∷ []
 
 -- the written fields of a signal are read as the signal
 pub record ReadsBack (s : Signal) : Type 0 where

@@ -1,7 +1,7 @@
 //! The texts of a network and of signals: NETWORK is one JSON object, SIGNALS is CSV.
 //!
-//! The one contract that upper crates use is that each reader gives exactly the value of its text, or the first
-//! refusal, and that what is written reads back.
+//! The one contract that upper crates use is that each reader gives exactly the value of its text, or the
+//! first refusal, and that what is written reads back.
 #![tactic(auto)]
 
 mod network;

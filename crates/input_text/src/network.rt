@@ -21,8 +21,9 @@ pub enum NetworkFault {
     /// The text is no JSON.
     #[error("not JSON")]
     NotJson,
-    /// The least member at fault: 0 the value is no object; 1 to 5 `version`, `ticks_per_us`, `nominal_ticks`,
-    /// `data_ticks`, `first_id` is missing, no whole number or out of range; 6 there is a further member.
+    /// The least member at fault: 0 the value is no object; 1 to 5 `version`, `ticks_per_us`,
+    /// `nominal_ticks`, `data_ticks`, `first_id` is missing, no whole number or out of range; 6 there is a
+    /// further member.
     #[error("member {0} is at fault")]
     BadMember(u8),
     /// Memory ran out.
@@ -99,8 +100,9 @@ fn read_whole(alloc: Global, text: &[u8]) -> Result<Network, NetworkFault>
     read_members(&value)
 }
 
-/// The network of a text in the format of NETWORK: one JSON object with exactly the members `version`, `ticks_per_us`,
-/// `nominal_ticks`, `data_ticks` and `first_id`. A byte order mark at the front is passed over.
+/// The network of a text in the format of NETWORK: one JSON object with exactly the members `version`,
+/// `ticks_per_us`, `nominal_ticks`, `data_ticks` and `first_id`. A byte order mark at the front is passed
+/// over.
 pub fn read_network(alloc: Global, text: &[u8]) -> Result<Network, NetworkFault>
     // The network of the text, or its refusal.
     ensures exact { Gives (λ x. x) network_refusal result (network_of text.now) }

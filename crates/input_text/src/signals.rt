@@ -11,9 +11,12 @@ ghost use Rattle.input_text.specs.declared.signals.SignalsFault.TheVariants as f
 
 use csv::ByteRecord;
 use csv_table::{ColumnFault, Rows, RowsWriter, count_at, name_at, number_at, optional_at};
-use pack_model::{Memory, Signal};
+use pack_model::{MAX_SIGNALS, Memory, Signal};
 use std::alloc::{AllocFailed, Global};
 use thiserror::Error;
+
+/// The first row that is one signal too many: the header is row 1.
+const TOO_LATE: u32 = 2050;
 
 const SIGNALS_HEADER: [&[u8]; 7] = [
     b"signal",
@@ -31,8 +34,8 @@ pub enum SignalsFault {
     /// The first record isn't the header.
     #[error("no header of signals")]
     BadHeader,
-    /// The first row that fails, counted from 1 for the header, and its least column that breaks its rule, counted
-    /// from 1, or 0 for the count of fields.
+    /// The first row that fails, counted from 1 for the header, and its least column that breaks its rule,
+    /// counted from 1, or 0 for the count of fields.
     #[error("column {column} of row {row} breaks its rule")]
     BadRow { row: u32, column: u8 },
     /// There are more than 2048 signals.
@@ -96,7 +99,7 @@ fn read_signal_rows(
     ensures { Gives (λ v. v.items) signals_refusal result (signals_from 2 rows.old) }
 {
     let mut signals = Vec::new(alloc);
-    for number in 2..2050 {
+    for number in 2..TOO_LATE {
         if !rows.next(row)? {
             return Ok(signals);
         }
@@ -122,7 +125,7 @@ pub fn read_signals(alloc: Global, text: &[u8]) -> Result<Vec<Signal>, SignalsFa
     ensures exact { Gives (λ v. v.items) signals_refusal result (signals_of text.now) }
     // The signals are in their ranges, and at most 2048.
     ensures stand { IfOk result (λ v. All SignalStands v.items) }
-    ensures few { IfOk result (λ v. length v.items ≤ 2048) }
+    ensures few { IfOk result (λ v. length v.items ≤ MAX_SIGNALS) }
 {
     read_all_signals(alloc, text)
 }
@@ -142,7 +145,8 @@ fn read_all_signals(alloc: Global, text: &[u8]) -> Result<Vec<Signal>, SignalsFa
 fn write_signal(out: &mut RowsWriter, signal: &Signal) -> Result<(), Memory>
     requires stands { SignalStands signal.now }
     requires at_start { out.old.row ≡ [] }
-    ensures text { OnOk result (out.new.text ≡ out.old.text ++ row_text default_writer (signal_fields signal.now)) }
+    ensures text { OnOk result
+        (out.new.text ≡ out.old.text ++ row_text default_writer (signal_fields signal.now)) }
     ensures row { OnOk result (out.new.row ≡ []) }
     ensures reads_back { OnOk result (ReadsBack signal.now) }
 {
@@ -172,7 +176,7 @@ fn write_signal_rows(out: &mut RowsWriter, signals: &[Signal]) -> Result<(), Mem
 /// The text of signals in the format of SIGNALS, every column in full.
 pub fn write_signals(alloc: Global, signals: &[Signal]) -> Result<Vec<u8>, Memory>
     requires stand { All SignalStands signals.now }
-    requires few { length signals.now ≤ 2048 }
+    requires few { length signals.now ≤ MAX_SIGNALS }
     ensures exact { IfOk result (λ v. v.items ≡ signals_text signals.now) }
     // `read_signals` of the text gives the same signals.
     ensures reads_back { IfOk result (λ v. SignalsText v.items signals.now) }

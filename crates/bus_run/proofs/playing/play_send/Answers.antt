@@ -14,7 +14,8 @@ pub overflow_cast-release : goal.overflow_cast-release
 overflow_cast-release c = omega (arith, c.in-Some.ensures.there, c.requires.few)
 
 pub overflow_add-ended : goal.overflow_add-ended
-overflow_add-ended c = omega (arith, c.requires.limit, c.requires.starts.before_end, c.in_ok-send.ensures.limit)
+overflow_add-ended c =
+    omega (arith, c.requires.limit, c.requires.starts.before_end, c.in_ok-send.ensures.limit)
 
 pub push-requires : goal.push-requires
 push-requires c = record {
@@ -28,10 +29,12 @@ returns-clause-played c =
     c.picked-pick.ensures ∙ ap (pick_at c.args.picks.now) c.sent.ensures in
     let time_is : c.contends_until-time.result
     ≡ contends_by c.args.network.now (pick_at c.args.picks.now (length c.args.run.now.sends)) c.args.start =
-    c.contends_until-time.ensures ∙ ap (λ (p : Pick). contends_by c.args.network.now p c.args.start) pick_is in
+    c.contends_until-time.ensures
+    ∙ ap (λ (p : Pick). contends_by c.args.network.now p c.args.start) pick_is in
     let run_is : c.push.new.self ≡ with_send c.args.run.now c.in_ok-send.send = c.in_ok-push.ensures in
     let Played : Course → Type 0 = λ run. IsPlayed c.args.network.now c.args.frames.now c.args.picks.now run
-    (slice_set c.args.next.now c.in-Some.frame c.first_from.result) (c.args.start + c.in_ok-send.send.ticks) in
+    (slice_set c.args.next.now c.in-Some.frame c.first_from.result)
+    (c.args.start + c.in_ok-send.send.ticks) in
     subst Played (sym run_is)
     (played_more c.args.network.now c.args.frames.now c.args.picks.now c.args.run.now c.args.next.now
     c.args.end c.args.start c.in-Some.frame

@@ -20,7 +20,6 @@ returns-in-Some c = (
 
 pub returns-in-None : goal.returns-in-None
 returns-in-None c = (
-  λ _. none_further c.args.run.now c.args.next.now c.requires.below c.requires.next
-      c.in-None.ensures,
+  λ _. none_further c.args.run.now c.args.next.now c.requires.below c.requires.next c.in-None.ensures,
   λ _. refl,
 )

@@ -1,9 +1,7 @@
-use Rattle.std.proofs.Common.{◌≡◌, false, ℕ, List, ap, sym, subst, ◌∙◌, Ok}
-use Rattle.matrix_rows.specs.declared.matrix.MatrixRow.{MatrixRow}
+use Rattle.std.proofs.Common.{false, ap, subst, ◌∙◌, Ok}
 use Rattle.matrix_text.specs.MatrixText.{MatrixText, matrix_text}
 use Rattle.cert_text.specs.Lines.{cert_lines, text_of}
 use Rattle.cert_text.specs.Parts.{CertParts}
-use Rattle.cert_text.specs.Reading.{cert_of_text}
 use Rattle.cert_text.specs.Written.{written_cert}
 use Rattle.canpack_top.specs.Plan.{IsMade, planned_cert, planned_matrix}
 use Rattle.canpack_top.specs.Verdict.{verdict_line}

@@ -16,6 +16,7 @@ use Rattle.canpack_top.proofs.CommandLaws.{
   refused_text,
   text_refused,
 }
+use Rattle.canpack_top.proofs.MakeLaws.{make_done, make_reads, make_said, make_written}
 use Rattle.canpack_top.proofs.top.canpack.Goals as goal
 
 pub returns-clause-refused : goal.returns-clause-refused
@@ -118,3 +119,32 @@ returns-clause-plans g c =
 
 pub returns-clause-check : goal.returns-clause-check
 returns-clause-check g c = λ check. c.status_of.ensures.idle (check_idle c.args.words.now check)
+
+pub returns-clause-case_written : goal.returns-clause-case_written
+returns-clause-case_written g c = λ zero told number make.
+    let called : Called c.args.words.now (g.F.Folder.files c.args.folder.now) (g.F.Folder.files c.status_of.new.folder)
+    (g.O.Sink.said c.args.out.now) (g.O.Sink.said c.status_of.new.out) c.status_of.result =
+    record { statuses = c.status_of.ensures.statuses; usage = λ one. (c.status_of.ensures.usage one).0; answered = c.status_of.ensures.answered } in
+    make_written called number make zero told
+
+pub returns-clause-case_reads : goal.returns-clause-case_reads
+returns-clause-case_reads g c = λ zero told number make.
+    let called : Called c.args.words.now (g.F.Folder.files c.args.folder.now) (g.F.Folder.files c.status_of.new.folder)
+    (g.O.Sink.said c.args.out.now) (g.O.Sink.said c.status_of.new.out) c.status_of.result =
+    record { statuses = c.status_of.ensures.statuses; usage = λ one. (c.status_of.ensures.usage one).0; answered = c.status_of.ensures.answered } in
+    make_reads called number make zero told
+
+pub returns-clause-case_said : goal.returns-clause-case_said
+returns-clause-case_said g c = λ zero number make.
+    let called : Called c.args.words.now (g.F.Folder.files c.args.folder.now) (g.F.Folder.files c.status_of.new.folder)
+    (g.O.Sink.said c.args.out.now) (g.O.Sink.said c.status_of.new.out) c.status_of.result =
+    record { statuses = c.status_of.ensures.statuses; usage = λ one. (c.status_of.ensures.usage one).0; answered = c.status_of.ensures.answered } in
+    make_said called number make zero
+
+pub returns-clause-makes : goal.returns-clause-makes
+returns-clause-makes g c = λ told number make.
+    let called : Called c.args.words.now (g.F.Folder.files c.args.folder.now) (g.F.Folder.files c.status_of.new.folder)
+    (g.O.Sink.said c.args.out.now) (g.O.Sink.said c.status_of.new.out) c.status_of.result =
+    record { statuses = c.status_of.ensures.statuses; usage = λ one. (c.status_of.ensures.usage one).0; answered = c.status_of.ensures.answered } in
+    make_done called number make (g.F.Folder.read_faults c.args.folder.now) (g.F.Folder.read_faults c.status_of.new.folder)
+    c.status_of.ensures.read_fault told

@@ -5,7 +5,9 @@ use Rattle.input_text.proofs.network.read_value.Goals as goal
 use Rattle.input_text.proofs.network.read_value.Goals.{then-is_memory, else-is_memory}
 
 pub returns-in-Ok : goal.returns-in-Ok
-returns-in-Ok c = value_read c.args.text.now c.without_mark.result.now (view c.in-Ok.value) c.without_mark.ensures c.in-Ok.ensures.ok.0 c.in-Ok.ensures.ok.1
+returns-in-Ok c =
+    value_read c.args.text.now c.without_mark.result.now
+    (view c.in-Ok.value) c.without_mark.ensures c.in-Ok.ensures.ok.0 c.in-Ok.ensures.ok.1
 
 pub returns-after-is_memory : goal.returns-after-is_memory
 returns-after-is_memory c = elim c.if-is_memory.branch [

@@ -10,7 +10,8 @@ pub returns-then-starts_with : goal.returns-then-starts_with
 returns-then-starts_with c =
     let text = c.args.text.now in
     let same = slice_eq-Decides Decides-eqb _ _ _ c.if-starts_with.ensures.value in
-    take_all (length text - 3) (drop 3 text) (omega (arith, length-drop 3 text)) ∙ sym (strip_bom-marked text (same.0 refl))
+    take_all (length text - 3) (drop 3 text) (omega (arith, length-drop 3 text))
+    ∙ sym (strip_bom-marked text (same.0 refl))
 
 pub returns-else-starts_with : goal.returns-else-starts_with
 returns-else-starts_with c =

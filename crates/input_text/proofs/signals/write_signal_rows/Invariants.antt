@@ -8,5 +8,6 @@ use Rattle.input_text.proofs.signals.write_signal_rows.Given as goal
 abbrev pub invariant-loop-signal : goal.invariant-loop-signal
 invariant-loop-signal l =
     (l.out.row ≡ [])
-    × (l.out.text ++ rows_text (map signal_fields (drop l.signal-index l.signals)) ≡ l.initial.out.text ++ rows_text (map signal_fields l.signals))
+    × (l.out.text ++ rows_text (map signal_fields (drop l.signal-index l.signals)) ≡ l.initial.out.text
+    ++ rows_text (map signal_fields l.signals))
     × All ReadsBack (take l.signal-index l.signals)

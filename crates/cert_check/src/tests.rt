@@ -1,0 +1,90 @@
+//! Certificates of two small problems.
+ghost use Rattle.std.specs.Prelude.{◌≤◌};
+ghost use Rattle.pack_model.specs.Signal.{SignalStands};
+
+use crate::{CheckFault, check_cert};
+use bandwidth_bound::Verdict;
+use cert_text::read_cert;
+use matrix_text::read_matrix;
+use pack_model::{Name, Network, Problem, Signal, problem_of};
+use std::alloc::Global;
+use std::process::Abort;
+
+/// A matrix of no rows.
+const NO_ROWS: &[u8] = b"id,sender,size,ticks,header,pdu,at,signal,start,bits\n";
+
+/// The two signals in one frame.
+const ONE_FRAME: &[u8] = b"id,sender,size,ticks,header,pdu,at,signal,start,bits\n\
+    256,ECU1,2,7400,none,,0,S1,0,8\n\
+    256,ECU1,2,7400,none,,0,S2,8,8\n";
+
+/// A signal of one byte every 10 ms.
+fn signal(rt: &impl Abort, alloc: Global, name: &[u8], deadline_us: u32) -> Signal
+    requires low { 1 ≤ deadline_us }
+    requires high { deadline_us ≤ 100000000 }
+    ensures { SignalStands result }
+{
+    Signal {
+        name: Name::new(alloc, name).expect(rt, "a name"),
+        sender: Name::new(alloc, b"ECU1").expect(rt, "a name"),
+        pdu: None,
+        bits: 8,
+        period_us: 10_000,
+        deadline_us,
+        jitter_us: 0,
+    }
+}
+
+/// The problem of two such signals.
+fn two_signals(rt: &impl Abort, alloc: Global) -> Problem {
+    let network = Network {
+        ticks_per_us: 80,
+        nominal_ticks: 160,
+        data_ticks: 40,
+        first_id: 256,
+    };
+    let first = signal(rt, alloc, b"S1", 10_000);
+    let second = signal(rt, alloc, b"S2", 10_000);
+    let signals = Vec::from_array(alloc, [first, second]).expect(rt, "memory");
+    problem_of(alloc, network, signals).expect(rt, "a problem")
+}
+
+/// What is found of the texts of a matrix and a certificate.
+fn found(
+    rt: &impl Abort,
+    alloc: Global,
+    problem: &Problem,
+    matrix: &[u8],
+    cert: &[u8],
+) -> Result<Verdict, CheckFault> {
+    let matrix = read_matrix(alloc, matrix).expect(rt, "a matrix");
+    let cert = read_cert(alloc, cert).expect(rt, "a certificate");
+    check_cert(alloc, problem, &matrix, &cert)
+}
+
+/// One frame of two bytes takes 7400 ticks, two frames of one byte 14000.
+#[test]
+fn one_frame_is_best(rt: HostRuntime) {
+    let problem = two_signals(&rt, rt.alloc());
+    let best = b"canpack certificate 1\nkind best\nframe 7400 0\nmain\ni 1\ni 2\nb\nb\nend\n";
+    let answer = found(&rt, rt.alloc(), &problem, ONE_FRAME, best);
+    assert_eq!(rt; answer, Ok(Verdict::Best { load: 7400 }));
+    let short = b"canpack certificate 1\nkind best\nframe 7400 0\nmain\ni 1\ni 1\nb\nend\n";
+    let answer = found(&rt, rt.alloc(), &problem, ONE_FRAME, short);
+    assert_eq!(rt; answer, Err(CheckFault::RejectedTree));
+}
+
+/// Left open at one signal, of which one frame takes 7000 ticks: 8 times that is the bound without a matrix.
+#[test]
+fn the_bound_is_that_of_the_open_leaf(rt: HostRuntime) {
+    let problem = two_signals(&rt, rt.alloc());
+    let open = b"canpack certificate 1\nkind open\nmain\ni 1\no\nend\n";
+    let answer = found(&rt, rt.alloc(), &problem, NO_ROWS, open);
+    assert_eq!(rt;
+        answer,
+        Ok(Verdict::Between {
+            best: None,
+            lower: 56_000
+        })
+    );
+}

@@ -1,0 +1,80 @@
+//! Two signals of one byte every 10 ms, of one sender.
+ghost use Rattle.std.specs.Prelude.{◌≡◌};
+ghost use Rattle.pack_model.specs.Signal.{SignalStands};
+ghost use Rattle.grouping_tree.specs.Grouped.{Belongs, range_of};
+
+use crate::Partial;
+use pack_model::{Name, Network, Problem, Signal, problem_of};
+use std::alloc::Global;
+use std::process::Abort;
+
+fn are_shared<T: Send + Sync>() {}
+
+/// A signal of one byte every 10 ms.
+fn signal(rt: &impl Abort, alloc: Global, name: &[u8]) -> Signal
+    ensures { SignalStands result }
+{
+    Signal {
+        name: Name::new(alloc, name).expect(rt, "a name"),
+        sender: Name::new(alloc, b"ECU1").expect(rt, "a name"),
+        pdu: None,
+        bits: 8,
+        period_us: 10_000,
+        deadline_us: 10_000,
+        jitter_us: 0,
+    }
+}
+
+/// Their problem.
+fn two_signals(rt: &impl Abort, alloc: Global) -> Problem {
+    let network = Network {
+        ticks_per_us: 80,
+        nominal_ticks: 160,
+        data_ticks: 40,
+        first_id: 256,
+    };
+    let first = signal(rt, alloc, b"S1");
+    let second = signal(rt, alloc, b"S2");
+    let signals = Vec::from_array(alloc, [first, second]).expect(rt, "memory");
+    problem_of(alloc, network, signals).expect(rt, "a problem")
+}
+
+/// Goes down, where an item is left.
+fn go_down(partial: &mut Partial, problem: &Problem)
+    requires belongs { Belongs problem.now partial.old }
+    requires all { range_of problem.now partial.old ≡ problem.now.items }
+    ensures belongs { Belongs problem.now partial.new }
+    ensures all { range_of problem.now partial.new ≡ problem.now.items }
+{
+    if partial.labels().len() < problem.items().len() {
+        partial.enter(problem);
+    }
+}
+
+/// Together their frame has 2 bytes and takes 7400 ticks; apart they take 7000 each.
+#[test]
+fn together_and_apart(rt: HostRuntime) {
+    are_shared::<Partial>();
+    let problem = two_signals(&rt, rt.alloc());
+    let mut partial = Partial::whole(rt.alloc(), &problem).expect(&rt, "memory");
+    assert_eq!(rt; partial.options(&problem), 1);
+    go_down(&mut partial, &problem);
+    assert_eq!(rt; partial.options(&problem), 2);
+    assert_eq!(rt; partial.kept_load(), 7000);
+    go_down(&mut partial, &problem);
+    assert_eq!(rt; partial.options(&problem), 0);
+    assert_eq!(rt; partial.kept_load(), 7400);
+    assert!(rt; partial.leave(&problem, 0));
+    assert_eq!(rt; partial.classes(), 2);
+    assert_eq!(rt; partial.kept_load(), 14000);
+    assert!(rt; !partial.leave(&problem, 0));
+    assert_eq!(rt; partial.kept_load(), 0);
+    if problem.senders().len() == 1 {
+        let one = Partial::of_sender(rt.alloc(), &problem, 0).expect(&rt, "memory");
+        assert_eq!(rt; one.range(), Some(0));
+        assert_eq!(rt; one.options(&problem), 1);
+        let mut again = Partial::whole(rt.alloc(), &problem).expect(&rt, "memory");
+        again.restart(&problem, Some(0));
+        assert_eq!(rt; again.range(), Some(0));
+    }
+}
