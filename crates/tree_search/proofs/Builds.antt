@@ -25,14 +25,17 @@ mutual
   pub build-flat : (t : Plain) (nodes : List Node) → build (flat t ++ nodes) ≡ t ∷ build nodes
   build-flat (inner ts) nodes =
       ap (gather (count_of ts)) (build-flat_each ts nodes)
-      ∙ ap (λ xs. inner (onto xs none) ∷ drop (count_of ts) (list_of ts ++ build nodes)) (take_at (list_of ts) (build nodes) (count_of ts) (length-list ts))
-      ∙ ap (λ xs. inner (onto (list_of ts) none) ∷ xs) (drop_at (list_of ts) (build nodes) (count_of ts) (length-list ts))
+      ∙ ap (λ xs. inner (onto xs none) ∷ drop (count_of ts) (list_of ts ++ build nodes))
+      (take_at (list_of ts) (build nodes) (count_of ts) (length-list ts))
+      ∙ ap (λ xs. inner (onto (list_of ts) none) ∷ xs)
+      (drop_at (list_of ts) (build nodes) (count_of ts) (length-list ts))
       ∙ ap (λ us. inner us ∷ build nodes) (plains-list ts)
   build-flat bound nodes = refl
   build-flat left nodes = refl
   build-flat (fail e) nodes = refl
 
-  pub build-flat_each : (ts : Plains) (nodes : List Node) → build (flat_each ts ++ nodes) ≡ list_of ts ++ build nodes
+  pub build-flat_each : (ts : Plains) (nodes : List Node)
+      → build (flat_each ts ++ nodes) ≡ list_of ts ++ build nodes
   build-flat_each none nodes = refl
   build-flat_each (more t ts) nodes =
       ap build (append_assoc (flat t) (flat_each ts) nodes)
@@ -40,7 +43,8 @@ mutual
       ∙ ap (λ us. t ∷ us) (build-flat_each ts nodes)
 
 -- a list's front with one more
-pub take-next : {X : Type 0} (xs rest : List X) (k : ℕ) (x : X) → drop k xs ≡ x ∷ rest → take (k + 1) xs ≡ take k xs ++ x ∷ []
+pub take-next : {X : Type 0} (xs rest : List X) (k : ℕ) (x : X) → drop k xs ≡ x ∷ rest
+    → take (k + 1) xs ≡ take k xs ++ x ∷ []
 take-next [] rest zero x h = cc
 take-next [] rest (suc k) x h = cc
 take-next (y ∷ xs) rest zero x h = cc
@@ -48,7 +52,8 @@ take-next {X = X} (y ∷ xs) rest (suc k) x h =
     let e : suc k + 1 ≡ suc (k + 1) = omega arith in
     ap (λ (n : ℕ). take {A = X} n (y ∷ xs)) e ∙ ap (λ zs. y ∷ zs) (take-next xs rest k x h)
 
-pub drop-next : {X : Type 0} (xs rest : List X) (k : ℕ) (x : X) → drop k xs ≡ x ∷ rest → drop (k + 1) xs ≡ rest
+pub drop-next : {X : Type 0} (xs rest : List X) (k : ℕ) (x : X) → drop k xs ≡ x ∷ rest
+    → drop (k + 1) xs ≡ rest
 drop-next [] rest zero x h = cc
 drop-next [] rest (suc k) x h = cc
 drop-next (y ∷ xs) rest zero x h = cc
@@ -78,8 +83,11 @@ pub taken-one : {X : Type 0} (taken old new all : List X) (k : ℕ) (x : X)
     → taken ≡ take k all → reverse old ≡ drop k all → old ≡ new ++ x ∷ []
     → (taken ++ x ∷ [] ≡ take (k + 1) all) × (reverse new ≡ drop (k + 1) all)
 taken-one taken old new all k x e f g =
-    let h : drop k all ≡ x ∷ reverse new = sym f ∙ ap reverse g ∙ reverse-append new (x ∷ []) in
-    (ap (λ xs. xs ++ x ∷ []) e ∙ sym (take-next all (reverse new) k x h), sym (drop-next all (reverse new) k x h))
+    let h : drop k all ≡ x ∷ reverse new = sym f ∙ ap reverse g ∙ reverse-append new (x ∷ []) in (
+      ap (λ xs. xs ++ x ∷ []) e
+          ∙ sym (take-next all (reverse new) k x h),
+      sym (drop-next all (reverse new) k x h),
+    )
 
 pub taken-none : {X : Type 0} (taken old new all : List X) (k : ℕ)
     → taken ≡ take k all → reverse old ≡ drop k all → old ≡ new ++ [] → old ≡ []
@@ -90,8 +98,10 @@ taken-none taken old new all k e f g n =
     (e ∙ sym (take-end all k h), ap reverse m ∙ sym (drop-end all k h))
 
 -- a tree on top of a stack
-pub plain-push : (old new : List Tree) (tree : Tree) → new ≡ old ++ tree ∷ [] → map plain_of (reverse new) ≡ plain_of tree ∷ map plain_of (reverse old)
-plain-push old new tree e = ap (λ xs. map plain_of (reverse xs)) e ∙ ap (map plain_of) (reverse-append old (tree ∷ []))
+pub plain-push : (old new : List Tree) (tree : Tree) → new ≡ old ++ tree ∷ []
+    → map plain_of (reverse new) ≡ plain_of tree ∷ map plain_of (reverse old)
+plain-push old new tree e = ap (λ xs. map plain_of (reverse xs)) e
+    ∙ ap (map plain_of) (reverse-append old (tree ∷ []))
 
 -- an inner node of the first of them
 pub plain-gather : (old rest new children : List Tree) (n : ℕ) (tree : Tree)
@@ -100,12 +110,16 @@ pub plain-gather : (old rest new children : List Tree) (n : ℕ) (tree : Tree)
     → map plain_of (reverse new) ≡ gather n (map plain_of (reverse old))
 plain-gather old rest new children n tree first after is e =
     plain-push rest new tree e
-    ∙ ap (λ t. t ∷ map plain_of (reverse rest)) (is ∙ ap (λ xs. inner (onto (map plain_of xs) none)) first ∙ ap (λ xs. inner (onto xs none)) (sym (take-map plain_of n (reverse old))))
+    ∙ ap (λ t. t ∷ map plain_of (reverse rest))
+    (is ∙ ap (λ xs. inner (onto (map plain_of xs) none)) first
+    ∙ ap (λ xs. inner (onto xs none)) (sym (take-map plain_of n (reverse old))))
     ∙ ap (λ xs. inner (onto (take n (map plain_of (reverse old))) none) ∷ map plain_of xs) after
-    ∙ ap (λ xs. inner (onto (take n (map plain_of (reverse old))) none) ∷ xs) (sym (drop-map plain_of n (reverse old)))
+    ∙ ap (λ xs. inner (onto (take n (map plain_of (reverse old))) none) ∷ xs)
+    (sym (drop-map plain_of n (reverse old)))
 
 pub builds-more : (all rest before : List Node) (node : Node) (stack stack' : List Tree)
-    → Builds all before stack → before ≡ rest ++ node ∷ [] → map plain_of (reverse stack') ≡ with_node node (map plain_of (reverse stack))
+    → Builds all before stack → before ≡ rest ++ node ∷ []
+    → map plain_of (reverse stack') ≡ with_node node (map plain_of (reverse stack))
     → Builds all rest stack'
 builds-more all rest before node stack stack' builds e is = record {
   done = node ∷ builds.done;
@@ -113,7 +127,8 @@ builds-more all rest before node stack stack' builds e is = record {
   trees = is ∙ ap (with_node node) builds.trees;
 }
 
-pub builds-end : (all : List Node) (stack : List Tree) → Builds all [] stack → map plain_of (reverse stack) ≡ build all
+pub builds-end : (all : List Node) (stack : List Tree) → Builds all [] stack
+    → map plain_of (reverse stack) ≡ build all
 builds-end all stack builds = builds.trees ∙ ap build (sym builds.parts)
 
 -- the one tree
@@ -121,12 +136,14 @@ pub one-tree : (all : List Node) (stack rest : List Tree) (tree : Tree) (t : Pla
     → map plain_of (reverse stack) ≡ build all → stack ≡ rest ++ tree ∷ [] → flat t ≡ all → plain_of tree ≡ t
 one-tree all stack rest tree t is e h =
     let both : plain_of tree ∷ map plain_of (reverse rest) ≡ t ∷ [] =
-    sym (plain-push rest stack tree e) ∙ is ∙ ap build (sym h ∙ sym (append-nil (flat t))) ∙ build-flat t [] in
+    sym (plain-push rest stack tree e) ∙ is ∙ ap build (sym h ∙ sym (append-nil (flat t)))
+    ∙ build-flat t [] in
     cc
 
 pub no-tree : (all : List Node) (stack : List Tree) (t : Plain)
     → map plain_of (reverse stack) ≡ build all → stack ≡ [] → flat t ≡ all → ⊥
 no-tree all stack t is e h =
     let both : [] ≡ t ∷ [] =
-    sym (ap (λ xs. map plain_of (reverse xs)) e) ∙ is ∙ ap build (sym h ∙ sym (append-nil (flat t))) ∙ build-flat t [] in
+    sym (ap (λ xs. map plain_of (reverse xs)) e) ∙ is ∙ ap build (sym h ∙ sym (append-nil (flat t)))
+    ∙ build-flat t [] in
     cc

@@ -50,14 +50,23 @@ mutual
 
   nodes_in-flat : (ts : Plains) → nodes_in ts ≡ done_in (flat_each ts)
   nodes_in-flat none = refl
-  nodes_in-flat (more t ts) = omega (arith, nodes_of-flat t, nodes_in-flat ts, done_in-append (flat t) (flat_each ts))
+  nodes_in-flat (more t ts) =
+      omega (arith, nodes_of-flat t, nodes_in-flat ts, done_in-append (flat t) (flat_each ts))
 
 -- the nodes that are done are the tree's nodes besides open leaves
-pub nodes_of-shown : (items : List Item) (from : List ℕ) (nodes : List Node) (places : List (List ℕ)) (t : Plain)
+pub nodes_of-shown : (items : List Item) (from : List ℕ) (nodes : List Node) (places : List (List ℕ))
+    (t : Plain)
     → Shows items from nodes places t → nodes_of t ≡ length nodes
 nodes_of-shown items from nodes places t h =
     let lefts = replicate (length places) Left in
-    omega (arith, nodes_of-flat t, ap done_in h.flat_is, done_in-append nodes lefts, done_in-closed nodes h.closed, done_in-lefts (length places))
+    omega (
+      arith,
+      nodes_of-flat t,
+      ap done_in h.flat_is,
+      done_in-append nodes lefts,
+      done_in-closed nodes h.closed,
+      done_in-lefts (length places),
+    )
 
 some-place : (items : List Item) (n : ℕ) (p : List ℕ) → 1 ≤ place_count items n p
 some-place items zero p = omega arith
@@ -65,15 +74,18 @@ some-place items (suc n) p = omega arith
 
 -- each node and each open leaf of a tree stands at a partial grouping of its own
 mutual
-  pub nodes-le_places : (items : List Item) (n : ℕ) (p : List ℕ) (t : Plain) → n + length p ≡ length items → HasOptions items p t
+  pub nodes-le_places : (items : List Item) (n : ℕ) (p : List ℕ) (t : Plain) → n + length p ≡ length items
+      → HasOptions items p t
       → nodes_of t + length (open_places items p t) ≤ place_count items n p
   nodes-le_places items zero p (inner ts) e h = absurd (omega (arith, h.0))
-  nodes-le_places items (suc n) p (inner ts) e h = omega (arith, nodes-le_sum items n p (options_of items p) ts e h.1)
+  nodes-le_places items (suc n) p (inner ts) e h =
+      omega (arith, nodes-le_sum items n p (options_of items p) ts e h.1)
   nodes-le_places items n p bound e h = omega (arith, some-place items n p)
   nodes-le_places items n p left e h = omega (arith, some-place items n p)
   nodes-le_places items n p (fail named) e h = omega (arith, some-place items n p)
 
-  nodes-le_sum : (items : List Item) (n : ℕ) (p ls : List ℕ) (ts : Plains) → suc n + length p ≡ length items → EachStands (any_goal items) p ls ts
+  nodes-le_sum : (items : List Item) (n : ℕ) (p ls : List ℕ) (ts : Plains) → suc n + length p ≡ length items
+      → EachStands (any_goal items) p ls ts
       → nodes_in ts + length (open_places_each items p ls ts) ≤ sum_by (place_count items n) (with_each p ls)
   nodes-le_sum items n p [] none e h = omega arith
   nodes-le_sum items n p [] (more t ts) e h = absurd h
@@ -91,21 +103,30 @@ mutual
       )
 
 -- a search with an open leaf has fewer nodes than there are partial groupings
-pub nodes-lt_places : (items : List Item) (n : ℕ) (from : List ℕ) (nodes : List Node) (p : List ℕ) (places : List (List ℕ)) (t : Plain)
-    → n + length from ≡ length items → Shows items from nodes (p ∷ places) t → length nodes < place_count items n from
+pub nodes-lt_places : (items : List Item) (n : ℕ) (from : List ℕ) (nodes : List Node) (p : List ℕ)
+    (places : List (List ℕ)) (t : Plain)
+    → n + length from ≡ length items → Shows items from nodes (p ∷ places) t
+    → length nodes < place_count items n from
 nodes-lt_places items n from nodes p places t e shows =
-    omega (arith, nodes-le_places items n from t e shows.options, nodes_of-shown items from nodes (p ∷ places) t shows, ap length shows.open_are)
+    omega (
+      arith,
+      nodes-le_places items n from t e shows.options,
+      nodes_of-shown items from nodes (p ∷ places) t shows,
+      ap length shows.open_are,
+    )
 
 module _ (items : List Item) (cut : List ℕ → Bool) where
   -- trimming trims
-  trimmed-cond : (b : Bool) (p : List ℕ) (t : Plain) → (b ≡ false → IsTrimmed items cut p t) → IsTrimmed items cut p (cond b bound t)
+  trimmed-cond : (b : Bool) (p : List ℕ) (t : Plain) → (b ≡ false → IsTrimmed items cut p t)
+      → IsTrimmed items cut p (cond b bound t)
   trimmed-cond true p t f = tt
   trimmed-cond false p t f = f refl
 
   mutual
     pub is_trimmed : (p : List ℕ) (t : Plain) → IsTrimmed items cut p (trim items cut p t)
     is_trimmed p (inner ts) =
-        trimmed-cond (cut p) p (inner (trim_each items cut p (options_of items p) ts)) (λ e. (e, are_trimmed p (options_of items p) ts))
+        trimmed-cond (cut p) p (inner (trim_each items cut p (options_of items p) ts))
+        (λ e. (e, are_trimmed p (options_of items p) ts))
     is_trimmed p bound = tt
     is_trimmed p left = tt
     is_trimmed p (fail named) = tt
@@ -123,7 +144,8 @@ module _ (items : List Item) (cut : List ℕ → Bool) where
   mutual
     pub nodes-trim : (p : List ℕ) (t : Plain) → nodes_of (trim items cut p t) ≤ nodes_of t
     nodes-trim p (inner ts) =
-        nodes-cond (cut p) (inner (trim_each items cut p (options_of items p) ts)) (nodes_in ts + 1) (omega arith)
+        nodes-cond (cut p) (inner (trim_each items cut p (options_of items p) ts)) (nodes_in ts + 1)
+        (omega arith)
         (omega (arith, nodes-trim_each p (options_of items p) ts))
     nodes-trim p bound = omega arith
     nodes-trim p left = omega arith
@@ -132,28 +154,36 @@ module _ (items : List Item) (cut : List ℕ → Bool) where
     nodes-trim_each : (p ls : List ℕ) (ts : Plains) → nodes_in (trim_each items cut p ls ts) ≤ nodes_in ts
     nodes-trim_each p [] ts = omega arith
     nodes-trim_each p (l ∷ ls) none = omega arith
-    nodes-trim_each p (l ∷ ls) (more t ts) = omega (arith, nodes-trim (p ++ l ∷ []) t, nodes-trim_each p ls ts)
+    nodes-trim_each p (l ∷ ls) (more t ts) =
+        omega (arith, nodes-trim (p ++ l ∷ []) t, nodes-trim_each p ls ts)
 
   -- and opens no leaf
-  nil-cond : (b : Bool) (p : List ℕ) (t : Plain) → open_places items p t ≡ [] → open_places items p (cond b bound t) ≡ []
+  nil-cond : (b : Bool) (p : List ℕ) (t : Plain) → open_places items p t ≡ []
+      → open_places items p (cond b bound t) ≡ []
   nil-cond true p t e = refl
   nil-cond false p t e = e
 
-  both : (xs ys xs' ys' : List (List ℕ)) → xs ++ ys ≡ [] → (xs ≡ [] → xs' ≡ []) → (ys ≡ [] → ys' ≡ []) → xs' ++ ys' ≡ []
+  both : (xs ys xs' ys' : List (List ℕ)) → xs ++ ys ≡ [] → (xs ≡ [] → xs' ≡ []) → (ys ≡ [] → ys' ≡ [])
+      → xs' ++ ys' ≡ []
   both [] ys xs' ys' e f g = ap (λ zs. zs ++ ys') (f refl) ∙ g e
   both (x ∷ xs) ys xs' ys' e f g = cc
 
   mutual
-    pub open-trim : (p : List ℕ) (t : Plain) → open_places items p t ≡ [] → open_places items p (trim items cut p t) ≡ []
-    open-trim p (inner ts) e = nil-cond (cut p) p (inner (trim_each items cut p (options_of items p) ts)) (open-trim_each p (options_of items p) ts e)
+    pub open-trim : (p : List ℕ) (t : Plain) → open_places items p t ≡ []
+        → open_places items p (trim items cut p t) ≡ []
+    open-trim p (inner ts) e =
+        nil-cond (cut p) p (inner (trim_each items cut p (options_of items p) ts))
+        (open-trim_each p (options_of items p) ts e)
     open-trim p bound e = refl
     open-trim p left e = e
     open-trim p (fail named) e = refl
 
-    open-trim_each : (p ls : List ℕ) (ts : Plains) → open_places_each items p ls ts ≡ [] → open_places_each items p ls (trim_each items cut p ls ts) ≡ []
+    open-trim_each : (p ls : List ℕ) (ts : Plains) → open_places_each items p ls ts ≡ []
+        → open_places_each items p ls (trim_each items cut p ls ts) ≡ []
     open-trim_each p [] ts e = e
     open-trim_each p (l ∷ ls) none e = e
     open-trim_each p (l ∷ ls) (more t ts) e =
         both (open_places items (p ++ l ∷ []) t) (open_places_each items p ls ts)
-        (open_places items (p ++ l ∷ []) (trim items cut (p ++ l ∷ []) t)) (open_places_each items p ls (trim_each items cut p ls ts)) e
+        (open_places items (p ++ l ∷ []) (trim items cut (p ++ l ∷ []) t))
+        (open_places_each items p ls (trim_each items cut p ls ts)) e
         (open-trim (p ++ l ∷ []) t) (open-trim_each p ls ts)

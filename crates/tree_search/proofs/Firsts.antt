@@ -33,7 +33,8 @@ is_more-append (x ∷ xs) ys = refl
 module _ (goal : Goal) where
   mutual
     -- a tree has an open leaf where the list of their places has an element
-    pub has_open-is : (p : List ℕ) (t : Plain) → TreeStands goal p t → has_open t ≡ is_more (open_places goal.items p t)
+    pub has_open-is : (p : List ℕ) (t : Plain) → TreeStands goal p t
+        → has_open t ≡ is_more (open_places goal.items p t)
     has_open-is p (inner ts) h = any_open-is p (options_of goal.items p) ts h.1
     has_open-is p bound h = refl
     has_open-is p left h = refl
@@ -63,7 +64,7 @@ module _ (goal : Goal) where
   by_test : (b : Bool) (p : List ℕ) (l : ℕ) (ls : List ℕ) (t u : Plain) (ts vs : Plains)
       → open_places_each goal.items p (l ∷ ls) (cond b (more t ts) (more u vs))
       ≡ cond b (open_places goal.items (p ++ l ∷ []) t ++ open_places_each goal.items p ls ts)
-          (open_places goal.items (p ++ l ∷ []) u ++ open_places_each goal.items p ls vs)
+      (open_places goal.items (p ++ l ∷ []) u ++ open_places_each goal.items p ls vs)
   by_test true p l ls t u ts vs = refl
   by_test false p l ls t u ts vs = refl
 
@@ -77,7 +78,8 @@ module _ (goal : Goal) where
     open-put_first p (fail named) u h = refl
 
     open-put_first_in : (p : List ℕ) (ls : List ℕ) (ts : Plains) (u : Plain) → EachStands goal p ls ts
-        → open_places_each goal.items p ls (put_first_in u ts) ≡ opened u (open_places_each goal.items p ls ts)
+        → open_places_each goal.items p ls (put_first_in u ts)
+        ≡ opened u (open_places_each goal.items p ls ts)
     open-put_first_in p [] none u h = refl
     open-put_first_in p [] (more t ts) u h = absurd h
     open-put_first_in p (l ∷ ls) none u h = absurd h
@@ -85,7 +87,9 @@ module _ (goal : Goal) where
         let here = open_places goal.items (p ++ l ∷ []) t in
         let rest = open_places_each goal.items p ls ts in
         by_test (has_open t) p l ls (put_first u t) t ts (put_first_in u ts)
-        ∙ ap (λ xs. cond (has_open t) (xs ++ rest) (here ++ open_places_each goal.items p ls (put_first_in u ts))) (open-put_first (p ++ l ∷ []) t u h.0)
+        ∙ ap (λ xs. cond (has_open t) (xs ++ rest)
+        (here ++ open_places_each goal.items p ls (put_first_in u ts)))
+        (open-put_first (p ++ l ∷ []) t u h.0)
         ∙ ap (λ xs. cond (has_open t) (opened u here ++ rest) (here ++ xs)) (open-put_first_in p ls ts u h.1)
         ∙ ap (λ b. cond b (opened u here ++ rest) (here ++ opened u rest)) (has_open-is (p ++ l ∷ []) t h.0)
         ∙ sym (opened-append u here rest)
@@ -100,7 +104,8 @@ module _ (goal : Goal) where
   first-left u (p ∷ xs) ys h = h
 
   -- in the first tree where that has an open leaf, and else in those after it
-  stand-by_test : (b : Bool) (p : List ℕ) (l : ℕ) (ls : List ℕ) (t t' : Plain) (ts ts' : Plains) (here rest : List (List ℕ)) (u : Plain)
+  stand-by_test : (b : Bool) (p : List ℕ) (l : ℕ) (ls : List ℕ) (t t' : Plain) (ts ts' : Plains)
+      (here rest : List (List ℕ)) (u : Plain)
       → b ≡ is_more here → AtFirst u (here ++ rest)
       → TreeStands goal (p ++ l ∷ []) t → EachStands goal p ls ts
       → (AtFirst u here → TreeStands goal (p ++ l ∷ []) t') → (AtFirst u rest → EachStands goal p ls ts')
@@ -111,7 +116,8 @@ module _ (goal : Goal) where
 
   mutual
     -- a standing tree still stands where a tree that stands there takes the place of its first open leaf
-    pub stands-put_first : (p : List ℕ) (t u : Plain) → TreeStands goal p t → AtFirst u (open_places goal.items p t)
+    pub stands-put_first : (p : List ℕ) (t u : Plain) → TreeStands goal p t
+        → AtFirst u (open_places goal.items p t)
         → TreeStands goal p (put_first u t)
     stands-put_first p (inner ts) u h a = (h.0, stand-put_first_in p (options_of goal.items p) ts u h.1 a)
     stands-put_first p bound u h a = h
@@ -136,7 +142,8 @@ module _ (goal : Goal) where
   stand-lefts p (l ∷ ls) may = (may, stand-lefts p ls may)
 
 -- the number of subtrees stays
-count-by_test : (b : Bool) (t u : Plain) (ts vs : Plains) → count_of ts ≡ count_of vs → count_of (cond b (more t ts) (more u vs)) ≡ count_of vs + 1
+count-by_test : (b : Bool) (t u : Plain) (ts vs : Plains) → count_of ts ≡ count_of vs
+    → count_of (cond b (more t ts) (more u vs)) ≡ count_of vs + 1
 count-by_test true t u ts vs e = ap (λ n. n + 1) e
 count-by_test false t u ts vs e = refl
 
@@ -147,11 +154,13 @@ count_of-put_first_in u (more t ts) =
     ∙ ap (λ n. n + 1) (count_of-put_first_in u ts)
 
 flat-by_test : (b : Bool) (t u : Plain) (ts vs : Plains) (ys : List Node)
-    → flat_each (cond b (more t ts) (more u vs)) ++ ys ≡ cond b (flat t ++ (flat_each ts ++ ys)) (flat u ++ (flat_each vs ++ ys))
+    → flat_each (cond b (more t ts) (more u vs)) ++ ys
+    ≡ cond b (flat t ++ (flat_each ts ++ ys)) (flat u ++ (flat_each vs ++ ys))
 flat-by_test true t u ts vs ys = append_assoc (flat t) (flat_each ts) ys
 flat-by_test false t u ts vs ys = append_assoc (flat u) (flat_each vs) ys
 
-inner_out : (b : Bool) (n : ℕ) (xs ys : List Node) → Inner n ∷ cond b xs ys ≡ cond b (Inner n ∷ xs) (Inner n ∷ ys)
+inner_out : (b : Bool) (n : ℕ) (xs ys : List Node)
+    → Inner n ∷ cond b xs ys ≡ cond b (Inner n ∷ xs) (Inner n ∷ ys)
 inner_out true n xs ys = refl
 inner_out false n xs ys = refl
 
@@ -165,24 +174,31 @@ end_of false false new old rest other ys zs = sym (append_assoc old rest zs)
 mutual
   -- of the nodes the first open leaf is replaced where there is one in the tree, and else one after it
   pub instead-flat : (u t : Plain) (ys : List Node)
-      → instead (flat u) (flat t ++ ys) ≡ cond (has_open t) (flat (put_first u t) ++ ys) (flat t ++ instead (flat u) ys)
+      → instead (flat u) (flat t ++ ys)
+      ≡ cond (has_open t) (flat (put_first u t) ++ ys) (flat t ++ instead (flat u) ys)
   instead-flat u (inner ts) ys =
       ap (λ xs. Inner (count_of ts) ∷ xs) (instead-flat_each u ts ys)
-      ∙ inner_out (any_open ts) (count_of ts) (flat_each (put_first_in u ts) ++ ys) (flat_each ts ++ instead (flat u) ys)
-      ∙ ap (λ n. cond (any_open ts) (Inner n ∷ (flat_each (put_first_in u ts) ++ ys)) (Inner (count_of ts) ∷ (flat_each ts ++ instead (flat u) ys))) (sym (count_of-put_first_in u ts))
+      ∙ inner_out (any_open ts) (count_of ts) (flat_each (put_first_in u ts) ++ ys)
+      (flat_each ts ++ instead (flat u) ys)
+      ∙ ap (λ n. cond (any_open ts) (Inner n ∷ (flat_each (put_first_in u ts) ++ ys))
+      (Inner (count_of ts) ∷ (flat_each ts ++ instead (flat u) ys))) (sym (count_of-put_first_in u ts))
   instead-flat u bound ys = refl
   instead-flat u left ys = refl
   instead-flat u (fail named) ys = refl
 
   instead-flat_each : (u : Plain) (ts : Plains) (ys : List Node)
-      → instead (flat u) (flat_each ts ++ ys) ≡ cond (any_open ts) (flat_each (put_first_in u ts) ++ ys) (flat_each ts ++ instead (flat u) ys)
+      → instead (flat u) (flat_each ts ++ ys)
+      ≡ cond (any_open ts) (flat_each (put_first_in u ts) ++ ys) (flat_each ts ++ instead (flat u) ys)
   instead-flat_each u none ys = refl
   instead-flat_each u (more t ts) ys =
       ap (instead (flat u)) (append_assoc (flat t) (flat_each ts) ys)
       ∙ instead-flat u t (flat_each ts ++ ys)
-      ∙ ap (λ xs. cond (has_open t) (flat (put_first u t) ++ (flat_each ts ++ ys)) (flat t ++ xs)) (instead-flat_each u ts ys)
-      ∙ end_of (has_open t) (any_open ts) (flat (put_first u t)) (flat t) (flat_each ts) (flat_each (put_first_in u ts)) ys (instead (flat u) ys)
-      ∙ ap (λ xs. cond (has_open t || any_open ts) xs ((flat t ++ flat_each ts) ++ instead (flat u) ys)) (sym (flat-by_test (has_open t) (put_first u t) t ts (put_first_in u ts) ys))
+      ∙ ap (λ xs. cond (has_open t) (flat (put_first u t) ++ (flat_each ts ++ ys)) (flat t ++ xs))
+      (instead-flat_each u ts ys)
+      ∙ end_of (has_open t) (any_open ts) (flat (put_first u t)) (flat t) (flat_each ts)
+      (flat_each (put_first_in u ts)) ys (instead (flat u) ys)
+      ∙ ap (λ xs. cond (has_open t || any_open ts) xs ((flat t ++ flat_each ts) ++ instead (flat u) ys))
+      (sym (flat-by_test (has_open t) (put_first u t) t ts (put_first_in u ts) ys))
 
 -- nodes that are no open leaves stay
 instead-closed : (v nodes ys : List Node) → IsClosed nodes → instead v (nodes ++ ys) ≡ nodes ++ instead v ys
@@ -208,28 +224,35 @@ pub count-lefts : (n : ℕ) → count_of (lefts n) ≡ n
 count-lefts zero = refl
 count-lefts (suc n) = ap (λ m. m + 1) (count-lefts n) ∙ add-one n
 
-pub open-lefts : (items : List Item) (p ls : List ℕ) → open_places_each items p ls (lefts (length ls)) ≡ with_each p ls
+pub open-lefts : (items : List Item) (p ls : List ℕ)
+    → open_places_each items p ls (lefts (length ls)) ≡ with_each p ls
 open-lefts items p [] = refl
 open-lefts items p (l ∷ ls) = ap (λ xs. (p ++ l ∷ []) ∷ xs) (open-lefts items p ls)
 
 -- one open leaf more is done
-pub shows-more : (items : List Item) (from : List ℕ) (nodes : List Node) (p : List ℕ) (rest opens : List (List ℕ)) (node : Node) (t u : Plain)
+pub shows-more : (items : List Item) (from : List ℕ) (nodes : List Node) (p : List ℕ)
+    (rest opens : List (List ℕ)) (node : Node) (t u : Plain)
     → Shows items from nodes (p ∷ rest) t
-    → IsClosed (node ∷ []) → flat u ≡ node ∷ replicate (length opens) Left → open_places items p u ≡ opens → HasOptions items p u
+    → IsClosed (node ∷ []) → flat u ≡ node ∷ replicate (length opens) Left → open_places items p u ≡ opens
+    → HasOptions items p u
     → Shows items from (nodes ++ node ∷ []) (opens ++ rest) (put_first u t)
 shows-more items from nodes p rest opens node t u shows closed flat_u open_u options_u =
     let after = replicate (length rest) Left in
-    let is_open : has_open t ≡ true = has_open-is (any_goal items) from t shows.options ∙ ap is_more shows.open_are in
+    let is_open : has_open t ≡ true = has_open-is (any_goal items) from t shows.options
+    ∙ ap is_more shows.open_are in
     let grown : flat (put_first u t) ++ [] ≡ (nodes ++ node ∷ []) ++ replicate (length (opens ++ rest)) Left =
     sym (instead-flat u t [] ∙ ap (λ b. cond b (flat (put_first u t) ++ []) (flat t ++ [])) is_open)
     ∙ ap (instead (flat u)) (append-nil (flat t) ∙ shows.flat_is)
     ∙ instead-closed (flat u) nodes (Left ∷ after) shows.closed
     ∙ ap (λ xs. nodes ++ (xs ++ after)) flat_u
     ∙ sym (append_assoc nodes (node ∷ []) (replicate (length opens) Left ++ after))
-    ∙ ap (λ xs. (nodes ++ node ∷ []) ++ xs) (replicate-append-replicate (length opens) (length rest) Left ∙ ap (λ n. replicate n Left) (sym (length-append opens rest))) in
+    ∙ ap (λ xs. (nodes ++ node ∷ []) ++ xs)
+    (replicate-append-replicate (length opens) (length rest) Left
+    ∙ ap (λ n. replicate n Left) (sym (length-append opens rest))) in
     record {
       closed = closed-append nodes (node ∷ []) shows.closed closed;
       flat_is = sym (append-nil (flat (put_first u t))) ∙ grown;
-      open_are = open-put_first (any_goal items) from t u shows.options ∙ ap (opened (any_goal items) u) shows.open_are ∙ ap (λ xs. xs ++ rest) open_u;
+      open_are = open-put_first (any_goal items) from t u shows.options
+          ∙ ap (opened (any_goal items) u) shows.open_are ∙ ap (λ xs. xs ++ rest) open_u;
       options = stands-put_first (any_goal items) from t u shows.options (rw shows.open_are options_u);
     }

@@ -56,6 +56,7 @@ any_goal items = record {
   AreFailing = λ p named. ⊤;
 }
 
--- at each inner node of a tree at a partial grouping an item is left, and there is one subtree for each option
+-- at each inner node of a tree at a partial grouping an item is left, and there is one subtree for each
+-- option
 abbrev pub HasOptions : List Item → List ℕ → Plain → Type 0
 HasOptions items p tree = TreeStands (any_goal items) p tree

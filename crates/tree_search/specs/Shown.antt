@@ -13,13 +13,15 @@ use Rattle.tree_search.specs.Flat.{IsClosed, flat}
 use Rattle.tree_search.specs.Open.{HasOptions}
 use Rattle.tree_search.specs.Step.{Searched}
 
--- the places that are open where a walk below its first labels stands: this one and those still to come, or none
+-- the places that are open where a walk below its first labels stands: this one and those still to come, or
+-- none
 abbrev pub agenda : List Item → ℕ → List ℕ → Bool → List (List ℕ)
 agenda items base labels true = labels ∷ places_left items base labels
 agenda items base labels false = []
 
 -- a tree is its nodes that are done, and then an open leaf at each of the places
-pub record Shows (items : List Item) (from : List ℕ) (nodes : List Node) (places : List (List ℕ)) (t : Plain) : Type 0 where
+pub record Shows (items : List Item) (from : List ℕ) (nodes : List Node) (places : List (List ℕ))
+    (t : Plain) : Type 0 where
   pub closed : IsClosed nodes
   pub flat_is : flat t ≡ nodes ++ replicate (length places) Left
   pub open_are : open_places items from t ≡ places
@@ -33,7 +35,8 @@ items_of problem search = range_of problem search.partial
 abbrev pub start_of : Search → List ℕ
 start_of search = take search.base (labels_of search.partial)
 
--- the partial grouping of a search is one of the problem, at or below the start, and at the start where the search is done
+-- the partial grouping of a search is one of the problem, at or below the start, and at the start where the
+-- search is done
 pub record IsOf (problem : Parts) (search : Search) : Type 0 where
   pub belongs : Belongs problem search.partial
   pub below : search.base ≤ length (labels_of search.partial)
@@ -46,7 +49,8 @@ pub record IsAt (problem : Parts) (search : Search) (x : Searched) : Type 0 wher
   pub best : x.best ≡ search.best
   pub found : x.found ≡ search.found
 
--- a search went on: it is one of the problem, over the same items, from the same start and with the same memory
+-- a search went on: it is one of the problem, over the same items, from the same start and with the same
+-- memory
 pub record GoesOn (problem : Parts) (old new : Search) : Type 0 where
   pub is_of : IsOf problem new
   pub items : items_of problem new ≡ items_of problem old

@@ -45,7 +45,8 @@ after items p finding x = record {
 }
 
 module _ (Finds : Option ℕ → List ℕ → Finding → Type 0) (items : List Item) (from : List ℕ) where
-  -- a step of a search that began at a partial grouping: what is found with the best so far at the place of the first
+  -- a step of a search that began at a partial grouping: what is found with the best so far at the place of
+  -- the first
   -- open leaf becomes of that leaf
   pub record Step (x y : Searched) : Type 0 where
     pub place : List ℕ

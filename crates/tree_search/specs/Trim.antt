@@ -53,9 +53,11 @@ AllHaveOptions items [] (tree ∷ trees) = ⊥
 AllHaveOptions items (p ∷ places) [] = ⊥
 AllHaveOptions items (p ∷ places) (tree ∷ trees) = HasOptions items p tree × AllHaveOptions items places trees
 
--- of the nodes that are left so many trees are to be passed over, and the others trimmed at the places: with the nodes
+-- of the nodes that are left so many trees are to be passed over, and the others trimmed at the places: with
+-- the nodes
 -- that are kept so far they are the wanted ones
-pub record Trims (items : List Item) (cut : List ℕ → Bool) (wanted kept rest : List Node) (skip : ℕ) (places : List (List ℕ)) : Type 0 where
+pub record Trims (items : List Item) (cut : List ℕ → Bool) (wanted kept rest : List Node) (skip : ℕ)
+    (places : List (List ℕ)) : Type 0 where
   pub passed : List Plain
   pub trees : List Plain
   pub parts : rest ≡ flats passed ++ flats trees

@@ -1,7 +1,7 @@
 //! Depth-first search over partial groupings: the step, flat trees and trimming.
 //!
-//! A search keeps the nodes that are done as a flat list in preorder, and a partial grouping with undo at the first open
-//! leaf. What is found at a place is a judge's to say.
+//! A search keeps the nodes that are done as a flat list in preorder, and a partial grouping with undo at the
+//! first open leaf. What is found at a place is a judge's to say.
 #![tactic(auto)]
 
 mod finding;

@@ -23,7 +23,8 @@ use grouping_tree::Partial;
 use pack_model::{Labels, Memory, Problem};
 use std::alloc::Global;
 
-/// A search over the partial groupings that extend the one at which it began: depth first, options by ascending label.
+/// A search over the partial groupings that extend the one at which it began: depth first, options by
+/// ascending label.
 #[derive(Drop)]
 pub struct Search {
     /// The partial grouping at the first open leaf.
@@ -122,7 +123,8 @@ impl Search {
         requires left { length (labels_of self.old.partial) < length (items_of problem.now self.old) }
         ensures goes_on { OnOk result (GoesOn problem.now self.old self.new) }
         ensures nodes { OnOk result (self.new.nodes.items ≡ self.old.nodes.items
-            ++ Node.Inner (length (options_of (items_of problem.now self.old) (labels_of self.old.partial))) ∷ []) }
+            ++ Node.Inner
+            (length (options_of (items_of problem.now self.old) (labels_of self.old.partial))) ∷ []) }
         ensures best { self.new.best ≡ self.old.best }
         ensures found { self.new.found ≡ self.old.found }
         ensures rest { OnOk result
@@ -170,7 +172,7 @@ impl Search {
             → J.finds judge.new parts items load p finding → J.finds judge.old parts items load p finding }
         ensures gives { OnOk result ((x : Searched) → IsAt problem.now self.old x → (y : Searched)
             × Step (J.finds judge.old problem.now (items_of problem.now self.old))
-                (items_of problem.now self.old) (start_of self.old) x y
+            (items_of problem.now self.old) (start_of self.old) x y
             × IsAt problem.now self.new y) }
     {
         let finding = judge.find(problem, &self.partial, self.best)?;
@@ -194,12 +196,18 @@ impl Search {
         }
     }
 
-    /// Makes at most so many steps, and answers how many: fewer only where no leaf is open then. After an error nothing is
-    /// known of the search, and it can only be dropped.
-    pub fn advance<J: Judge>(&mut self, judge: &mut J, problem: &Problem, steps: u64) -> Result<u64, Memory>
+    /// Makes at most so many steps, and answers how many: fewer only where no leaf is open then. After an error
+    /// nothing is known of the search, and it can only be dropped.
+    pub fn advance<J: Judge>(
+        &mut self,
+        judge: &mut J,
+        problem: &Problem,
+        steps: u64,
+    ) -> Result<u64, Memory>
         requires { IsOf problem.now self.old }
         ensures goes_on { OnOk result (GoesOn problem.now self.old self.new) }
-        ensures count { IfOk result (λ made. length self.new.nodes.items ≡ length self.old.nodes.items + made) }
+        ensures count { IfOk result
+            (λ made. length self.new.nodes.items ≡ length self.old.nodes.items + made) }
         ensures within { IfOk result (λ made. made ≤ steps) }
         ensures fewer { IfOk result (λ made. made < steps → self.new.open ≡ false) }
         ensures bounds { J.bound_of judge.new ≡ J.bound_of judge.old }
@@ -208,7 +216,7 @@ impl Search {
         // Each step is one of what the judge finds.
         ensures gives { IfOk result (λ made. (x : Searched) → IsAt problem.now self.old x → (y : Searched)
             × Steps (J.finds judge.old problem.now (items_of problem.now self.old))
-                (items_of problem.now self.old) (start_of self.old) made x y
+            (items_of problem.now self.old) (start_of self.old) made x y
             × IsAt problem.now self.new y) }
     {
         let mut made = 0;
@@ -238,8 +246,8 @@ impl Search {
         Ok(tree)
     }
 
-    /// Its tree, where no leaf is open, trimmed: an inner node whose lower bound reaches `value`, in eighths of ticks a
-    /// common period, becomes a bound leaf, from the root down.
+    /// Its tree, where no leaf is open, trimmed: an inner node whose lower bound reaches `value`, in eighths of
+    /// ticks a common period, becomes a bound leaf, from the root down.
     pub fn into_trimmed<J: Judge>(
         self,
         alloc: Global,
@@ -252,7 +260,8 @@ impl Search {
         requires tree { (x : Searched) × IsAt problem.now self x }
         ensures { IfOk result (λ tree. (x : Searched) → IsAt problem.now self x
             → plain_of tree ≡ trim_of (items_of problem.now self)
-                (reaches (J.bound_of judge.now problem.now (items_of problem.now self)) value) (start_of self) x.tree) }
+            (reaches (J.bound_of judge.now problem.now (items_of problem.now self)) value)
+            (start_of self) x.tree) }
     {
         let Search {
             mut partial,
@@ -280,7 +289,8 @@ fn leave_open(
     requires belongs { Belongs problem.now partial.old }
     requires below { base ≤ length (labels_of partial.old) }
     ensures { OnOk result (nodes.new.items ≡ nodes.old.items
-        ++ replicate (length (agenda (range_of problem.now partial.old) base (labels_of partial.old) is_open)) Node.Left) }
+        ++ replicate (length (agenda (range_of problem.now partial.old) base (labels_of partial.old) is_open))
+        Node.Left) }
 {
     let mut more = is_open;
     while more {

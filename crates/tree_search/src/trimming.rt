@@ -62,16 +62,17 @@ impl Trimming {
         ensures room { room_of partial.new ≡ room_of partial.old }
         ensures base { self.new.base ≡ self.old.base }
         ensures below { self.old.base ≤ length (labels_of partial.new) }
-        ensures front { take self.old.base (labels_of partial.new) ≡ take self.old.base (labels_of partial.old) }
+        ensures front { take self.old.base (labels_of partial.new)
+            ≡ take self.old.base (labels_of partial.old) }
         ensures done { OnOk result (self.new.open ≡ false
             → labels_of partial.new ≡ take self.old.base (labels_of partial.old)) }
         ensures gives { OnOk result (let items = range_of problem.now partial.old
             in let cut = reaches (J.bound_of judge.now problem.now items) value
             in (wanted rest : List Node)
             → Trims items cut wanted self.old.kept.items (node ∷ rest) 0
-                (agenda items self.old.base (labels_of partial.old) true)
+            (agenda items self.old.base (labels_of partial.old) true)
             → Trims items cut wanted self.new.kept.items rest self.new.skip
-                (agenda items self.old.base (labels_of partial.new) self.new.open)) }
+            (agenda items self.old.base (labels_of partial.new) self.new.open)) }
     {
         match node {
             Node::Inner(count) => {
@@ -108,22 +109,24 @@ impl Trimming {
             in let cut = reaches (J.bound_of judge.now problem.now items) value
             in (wanted : List Node) × (rest : List Node) × (length rest < 2 ^ 64)
             × Trims items cut wanted self.old.kept.items (node ∷ rest) self.old.skip
-                (agenda items self.old.base (labels_of partial.old) self.old.open) }
+            (agenda items self.old.base (labels_of partial.old) self.old.open) }
         ensures belongs { Belongs problem.now partial.new }
         ensures range { range_of problem.now partial.new ≡ range_of problem.now partial.old }
         ensures room { room_of partial.new ≡ room_of partial.old }
         ensures base { self.new.base ≡ self.old.base }
         ensures below { self.old.base ≤ length (labels_of partial.new) }
-        ensures front { take self.old.base (labels_of partial.new) ≡ take self.old.base (labels_of partial.old) }
-        ensures done { OnOk result ((self.old.open ≡ false → labels_of partial.old ≡ take self.old.base (labels_of partial.old))
+        ensures front { take self.old.base (labels_of partial.new)
+            ≡ take self.old.base (labels_of partial.old) }
+        ensures done { OnOk result
+            ((self.old.open ≡ false → labels_of partial.old ≡ take self.old.base (labels_of partial.old))
             → self.new.open ≡ false → labels_of partial.new ≡ take self.old.base (labels_of partial.old)) }
         ensures gives { OnOk result (let items = range_of problem.now partial.old
             in let cut = reaches (J.bound_of judge.now problem.now items) value
             in (wanted rest : List Node)
             → Trims items cut wanted self.old.kept.items (node ∷ rest) self.old.skip
-                (agenda items self.old.base (labels_of partial.old) self.old.open)
+            (agenda items self.old.base (labels_of partial.old) self.old.open)
             → Trims items cut wanted self.new.kept.items rest self.new.skip
-                (agenda items self.old.base (labels_of partial.new) self.new.open)) }
+            (agenda items self.old.base (labels_of partial.new) self.new.open)) }
     {
         if self.skip > 0 {
             self.pass_over(&node);
@@ -143,9 +146,9 @@ fn is_cut<J: Judge>(judge: &J, problem: &Problem, partial: &Partial, value: u128
     value <= judge.lower8(problem, partial)
 }
 
-/// The nodes of the trimmed tree, where the tree of the nodes stands at a partial grouping: an inner node whose lower
-/// bound reaches `value`, in eighths of ticks a common period, becomes a bound leaf, from the root down. The partial
-/// grouping is as before then.
+/// The nodes of the trimmed tree, where the tree of the nodes stands at a partial grouping: an inner node whose
+/// lower bound reaches `value`, in eighths of ticks a common period, becomes a bound leaf, from the root down. The
+/// partial grouping is as before then.
 pub fn trim<J: Judge>(
     alloc: Global,
     judge: &J,
@@ -203,7 +206,7 @@ pub fn trim_tree<J: Judge>(
     ensures labels { OnOk result (labels_of partial.new ≡ labels_of partial.old) }
     ensures trimmed { IfOk result (λ trimmed. let items = range_of problem.now partial.old
         in plain_of trimmed ≡ trim_of items (reaches (J.bound_of judge.now problem.now items) value)
-            (labels_of partial.old) (plain_of tree)) }
+        (labels_of partial.old) (plain_of tree)) }
 {
     let mut nodes = Vec::new(alloc);
     flatten(tree, &mut nodes)?;

@@ -13,12 +13,17 @@ loop-more-preserved c =
     let old = labels_of c.loop-more.partial in
     let new = labels_of c.leave-more.new.self in
     let items = range_of problem c.args.partial.now in
-    let rest = left-agenda (range_of problem c.loop-more.partial) (range_of problem c.leave-more.new.self) c.args.base old new c.leave-more.result told.range told.next told.none in
+    let rest =
+    left-agenda (range_of problem c.loop-more.partial)
+    (range_of problem c.leave-more.new.self) c.args.base old new c.leave-more.result told.range told.next
+    told.none in
     record {
       belongs = told.belongs;
       range = told.range ∙ inv.range;
       below = left-below c.args.base old new c.leave-more.result inv.below told.next told.none;
-      nodes = open-more c.loop-more.nodes.items c.push.new.self.items old (places_left items c.args.base old) (agenda items c.args.base new c.leave-more.result)
+      nodes =
+          open-more c.loop-more.nodes.items c.push.new.self.items old (places_left items c.args.base old)
+          (agenda items c.args.base new c.leave-more.result)
           c.in_ok-push.ensures.items (rw inv.range at rest)
           ∙ rw c.loop-more-test.true at inv.nodes;
     }
@@ -30,8 +35,11 @@ loop-more-smaller c =
     let before = range_of problem c.loop-more.partial in
     let old = labels_of c.loop-more.partial in
     let new = labels_of c.leave-more.new.self in
-    let rest = left-agenda before (range_of problem c.leave-more.new.self) c.args.base old new c.leave-more.result told.range told.next told.none in
+    let rest =
+    left-agenda before (range_of problem c.leave-more.new.self) c.args.base old new c.leave-more.result
+    told.range told.next told.none in
     rw (told.range, rest, c.loop-more-test.true) (omega arith)
 
 pub returns : goal.returns
-returns c = sym (append-nil c.loop-more.nodes.items) ∙ rw c.loop-more-test.false at c.loop-more.invariant.nodes
+returns c = sym (append-nil c.loop-more.nodes.items)
+    ∙ rw c.loop-more-test.false at c.loop-more.invariant.nodes

@@ -11,7 +11,8 @@ invariant-loop-more l =
       range : range_of l.problem l.partial ≡ items;
       below : l.base ≤ length (labels_of l.partial);
       nodes : l.nodes.items ++ replicate (length (agenda items l.base (labels_of l.partial) l.more)) Left
-          ≡ l.initial.nodes.items ++ replicate (length (agenda items l.base (labels_of l.initial.partial) l.initial.more)) Left;
+          ≡ l.initial.nodes.items ++ replicate
+          (length (agenda items l.base (labels_of l.initial.partial) l.initial.more)) Left;
     }
 
 abbrev pub decreases-loop-more : goal.decreases-loop-more

@@ -5,7 +5,8 @@ use Rattle.tree_search.proofs.tree.tree_of.Goals as goal
 
 pub returns-in-Some : goal.returns-in-Some
 returns-in-Some c = λ t h.
-    one-tree c.args.nodes.items c.in_ok-stack.stack.items c.pop.new.self.items c.in-Some.tree t c.in_ok-stack.ensures c.in-Some.ensures.items h
+    one-tree c.args.nodes.items c.in_ok-stack.stack.items c.pop.new.self.items c.in-Some.tree t
+    c.in_ok-stack.ensures c.in-Some.ensures.items h
 
 pub returns : goal.returns
 returns c = λ t h.

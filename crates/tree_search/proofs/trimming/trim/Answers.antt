@@ -19,7 +19,12 @@ loop-node-init g c =
       front = start-all start;
       done = λ e. cc;
       trims = λ wanted h.
-          rw (c.new.ensures.items, c.reverse.ensures.items, reverse-reverse c.args.nodes.items, agenda-start (range_of c.args.problem.now c.args.partial.now) start) h;
+          rw (
+            c.new.ensures.items,
+            c.reverse.ensures.items,
+            reverse-reverse c.args.nodes.items,
+            agenda-start (range_of c.args.problem.now c.args.partial.now) start,
+          ) h;
     }
 
 pub take-requires-clause-trims : goal.take-requires-clause-trims
@@ -32,9 +37,12 @@ take-requires-clause-trims g c =
     let wanted = flat (trim items cut start t) in
     let inv = c.loop-node.invariant in
     let rest = c.pop.new.self.items in
-    let at = inv.trims wanted (trims-start items cut c.args.nodes.items start t c.requires.tree.1 c.requires.tree.2) in
+    let at =
+    inv.trims wanted (trims-start items cut c.args.nodes.items start t c.requires.tree.1
+    c.requires.tree.2) in
     let popped = ap reverse c.in-Some.ensures.items ∙ reverse-append rest (c.in-Some.node ∷ []) in
-    let few : length (reverse rest) < 2 ^ 64 = omega (arith, length-reverse rest, c.pop.new.self.ok.0, c.pop.new.self.ok.1, c.pop.new.self.small) in
+    let few : length (reverse rest) < 2 ^ 64 =
+    omega (arith, length-reverse rest, c.pop.new.self.ok.0, c.pop.new.self.ok.1, c.pop.new.self.small) in
     rw (inv.range, inv.base) (wanted, reverse rest, few, rw popped at at)
 
 pub loop-node-preserved : goal.loop-node-preserved
@@ -66,9 +74,13 @@ returns-clause-labels g c =
     let t = c.requires.tree.0 in
     let wanted = flat (trim items cut start t) in
     let inv = c.loop-node.invariant in
-    let at = inv.trims wanted (trims-start items cut c.args.nodes.items start t c.requires.tree.1 c.requires.tree.2) in
-    let over : c.loop-node.rest.items ≡ [] = nil_from_length c.loop-node.rest.items (sym c.loop-node.rest.ok.0 ∙ c.in_default.ensures.cases.0) in
-    inv.done (trims-closed items cut wanted c.loop-node.trimming.kept.items c.loop-node.trimming.skip (length start) (labels_of c.loop-node.partial) c.loop-node.trimming.open
+    let at =
+    inv.trims wanted (trims-start items cut c.args.nodes.items start t c.requires.tree.1
+    c.requires.tree.2) in
+    let over : c.loop-node.rest.items ≡ [] =
+    nil_from_length c.loop-node.rest.items (sym c.loop-node.rest.ok.0 ∙ c.in_default.ensures.cases.0) in
+    inv.done (trims-closed items cut wanted c.loop-node.trimming.kept.items c.loop-node.trimming.skip
+    (length start) (labels_of c.loop-node.partial) c.loop-node.trimming.open
     (rw over at at))
 
 pub returns-clause-trimmed : goal.returns-clause-trimmed
@@ -80,5 +92,6 @@ returns-clause-trimmed g c = λ t flat_is options.
     let wanted = flat (trim items cut start t) in
     let inv = c.loop-node.invariant in
     let at = inv.trims wanted (trims-start items cut c.args.nodes.items start t flat_is options) in
-    let over : c.loop-node.rest.items ≡ [] = nil_from_length c.loop-node.rest.items (sym c.loop-node.rest.ok.0 ∙ c.in_default.ensures.cases.0) in
+    let over : c.loop-node.rest.items ≡ [] =
+    nil_from_length c.loop-node.rest.items (sym c.loop-node.rest.ok.0 ∙ c.in_default.ensures.cases.0) in
     trims-end items cut wanted c.loop-node.trimming.kept.items c.loop-node.trimming.skip _ (rw over at at)

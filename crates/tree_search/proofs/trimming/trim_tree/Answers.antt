@@ -8,4 +8,6 @@ trim-requires-clause-tree g c =
 
 pub returns-clause-trimmed : goal.returns-clause-trimmed
 returns-clause-trimmed g c =
-    c.in_ok-trimmed.ensures _ (c.in_ok-kept.ensures.trimmed (plain_of c.args.tree) (sym (rw c.new-nodes.ensures.items at c.in_ok-flatten.ensures)) c.requires.tree)
+    c.in_ok-trimmed.ensures _
+    (c.in_ok-kept.ensures.trimmed (plain_of c.args.tree)
+    (sym (rw c.new-nodes.ensures.items at c.in_ok-flatten.ensures)) c.requires.tree)

@@ -28,14 +28,18 @@ loop-made-preserved g c =
       count = told.count ∙ omega (arith, inv.count);
       within = omega arith;
       bounds = told.bounds ∙ inv.bounds;
-      same = λ parts items load p finding h. inv.same parts items load p finding (told.same parts items load p finding h);
+      same =
+          λ parts items load p finding h. inv.same parts items load p finding
+          (told.same parts items load p finding h);
       gives = λ x at.
           let before = inv.gives x at in
-          let last = told.gives before.0 before.2 in
-          (
+          let last = told.gives before.0 before.2 in (
             last.0,
-            steps-one_more (g.J.Judge.finds c.args.judge.now problem items) items from c.loop-made.made x before.0 last.0 before.1
-                (step-back (g.J.Judge.finds c.loop-made.judge problem) (g.J.Judge.finds c.args.judge.now problem) items (items_of problem here) from (start_of here)
+            steps-one_more (g.J.Judge.finds c.args.judge.now problem items) items from c.loop-made.made x
+                before.0 last.0 before.1
+                (step-back (g.J.Judge.finds c.loop-made.judge problem)
+                (g.J.Judge.finds c.args.judge.now problem) items (items_of problem here) from
+                (start_of here)
                 before.0 last.0 inv.goes_on.items inv.goes_on.start (inv.same problem items) last.1),
             last.2,
           );

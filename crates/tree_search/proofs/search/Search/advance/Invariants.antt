@@ -15,9 +15,11 @@ invariant-loop-made g l =
       within : l.made ≤ l.steps;
       bounds : judge.bound_of l.judge ≡ judge.bound_of l.initial.judge;
       same : (parts : Parts) (items : List Item) (load : Option ℕ) (p : List ℕ) (finding : Finding)
-          → judge.finds l.judge parts items load p finding → judge.finds l.initial.judge parts items load p finding;
+          → judge.finds l.judge parts items load p finding
+          → judge.finds l.initial.judge parts items load p finding;
       gives : (x : Searched) → IsAt l.problem first x → (y : Searched)
-          × Steps (judge.finds l.initial.judge l.problem (items_of l.problem first)) (items_of l.problem first) (start_of first) l.made x y
+          × Steps (judge.finds l.initial.judge l.problem (items_of l.problem first))
+          (items_of l.problem first) (start_of first) l.made x y
           × IsAt l.problem l.self y;
     }
 

@@ -11,7 +11,8 @@ returns-clause-goes_on c =
     record {
       is_of = record {
         belongs = told.belongs;
-        below = left-below c.args.self.now.base old new c.leave-self.result c.requires.below told.next told.none;
+        below =
+            left-below c.args.self.now.base old new c.leave-self.result c.requires.below told.next told.none;
         done = λ e. (told.none e).0 ∙ sym told.front;
       };
       items = told.range;
@@ -24,5 +25,7 @@ pub returns-clause-rest : goal.returns-clause-rest
 returns-clause-rest c =
     let told = c.leave-self.ensures in
     let problem = c.args.problem.now in
-    left-agenda (range_of problem c.args.self.now.partial) (range_of problem c.leave-self.new.self) c.args.self.now.base
-    (labels_of c.args.self.now.partial) (labels_of c.leave-self.new.self) c.leave-self.result told.range told.next told.none
+    left-agenda (range_of problem c.args.self.now.partial)
+    (range_of problem c.leave-self.new.self) c.args.self.now.base
+    (labels_of c.args.self.now.partial)
+    (labels_of c.leave-self.new.self) c.leave-self.result told.range told.next told.none

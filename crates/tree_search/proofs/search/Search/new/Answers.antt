@@ -6,4 +6,6 @@ pub returns-clause-start : goal.returns-clause-start
 returns-clause-start c = rw c.labels-base.ensures (start-all _)
 
 pub returns-clause-at : goal.returns-clause-at
-returns-clause-at c = at-start c.args.problem.now _ c.args.best (ap length c.labels-base.ensures) refl c.new.ensures.items refl refl
+returns-clause-at c =
+    at-start c.args.problem.now _ c.args.best
+    (ap length c.labels-base.ensures) refl c.new.ensures.items refl refl

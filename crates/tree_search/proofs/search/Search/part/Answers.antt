@@ -27,5 +27,7 @@ returns-clause-rest c =
     let told = c.enter.ensures in
     let problem = c.args.problem.now in
     rw c.requires.open
-    (entered-agenda (range_of problem c.args.self.now.partial) (range_of problem c.enter.new.self) c.args.self.now.base
-    (labels_of c.args.self.now.partial) (labels_of c.enter.new.self) told.range (told.places c.args.self.now.base c.requires.search.below))
+    (entered-agenda (range_of problem c.args.self.now.partial)
+    (range_of problem c.enter.new.self) c.args.self.now.base
+    (labels_of c.args.self.now.partial) (labels_of c.enter.new.self) told.range
+    (told.places c.args.self.now.base c.requires.search.below))

@@ -19,7 +19,8 @@ pass_over-requires-clause-room g c =
       arith,
       c.requires.trims.2,
       trims-skip items cut wanted self.kept.items rest (self.skip - 1 + subtrees c.args.node) places
-          (trims-over items cut wanted self.kept.items rest (c.args.node ∷ rest) c.args.node self.skip places (omega arith) refl c.requires.trims.3),
+          (trims-over items cut wanted self.kept.items rest (c.args.node ∷ rest) c.args.node self.skip places
+          (omega arith) refl c.requires.trims.3),
     )
 
 pub read-requires-clause-open : goal.read-requires-clause-open
@@ -29,7 +30,8 @@ read-requires-clause-open g c =
     let cut = reaches (g.J.Judge.bound_of c.args.judge.now problem items) c.args.value in
     let self = c.args.self.now in
     let nothing : self.skip ≡ 0 = omega arith in
-    trims-open items cut c.requires.trims.0 self.kept.items c.requires.trims.1 c.args.node self.base (labels_of c.args.partial.now) self.open
+    trims-open items cut c.requires.trims.0 self.kept.items c.requires.trims.1 c.args.node self.base
+    (labels_of c.args.partial.now) self.open
     (rw nothing at c.requires.trims.3)
 
 pub read-requires-clause-left : goal.read-requires-clause-left
@@ -39,7 +41,8 @@ read-requires-clause-left g c = λ n is.
     let cut = reaches (g.J.Judge.bound_of c.args.judge.now problem items) c.args.value in
     let self = c.args.self.now in
     let nothing : self.skip ≡ 0 = omega arith in
-    trims-inner items cut c.requires.trims.0 self.kept.items c.requires.trims.1 c.args.node self.base (labels_of c.args.partial.now) self.open n is
+    trims-inner items cut c.requires.trims.0 self.kept.items c.requires.trims.1 c.args.node self.base
+    (labels_of c.args.partial.now) self.open n is
     (rw nothing at c.requires.trims.3)
 
 pub returns-then-self-gt0-clause-gives : goal.returns-then-self-gt0-clause-gives
@@ -50,7 +53,8 @@ returns-then-self-gt0-clause-gives g c = λ wanted rest h.
     let self = c.args.self.now in
     let places = agenda items self.base (labels_of c.args.partial.now) self.open in
     rw c.pass_over.ensures
-    (trims-over items cut wanted self.kept.items rest (c.args.node ∷ rest) c.args.node self.skip places (omega arith) refl h)
+    (trims-over items cut wanted self.kept.items rest (c.args.node ∷ rest) c.args.node self.skip places
+    (omega arith) refl h)
 
 pub returns-clause-gives : goal.returns-clause-gives
 returns-clause-gives g c = λ wanted rest h.
@@ -60,5 +64,7 @@ returns-clause-gives g c = λ wanted rest h.
     let self = c.args.self.now in
     let nothing : self.skip ≡ 0 = omega arith in
     let at = rw nothing at h in
-    let is_open = trims-open items cut wanted self.kept.items rest c.args.node self.base (labels_of c.args.partial.now) self.open at in
+    let is_open =
+    trims-open items cut wanted self.kept.items rest c.args.node self.base
+    (labels_of c.args.partial.now) self.open at in
     c.in_ok-read.ensures.gives wanted rest (rw is_open at at)
