@@ -1,0 +1,301 @@
+//! A search that stands at its first open leaf.
+ghost use Rattle.std.specs.Prelude.{◌≡◌, ◌+◌, ◌≤◌, ◌<◌, ◌++◌, ℕ, List, true, false, [], ◌∷◌, length, replicate, Option, None, OnOk, IfOk};
+ghost use Rattle.std.specs.Option.{option_copied};
+ghost use Rattle.cert_text.specs.PlainTree.{plain_of};
+ghost use Rattle.cert_text.specs.Trees.{left};
+ghost use Rattle.grouping_tree.specs.Grouped.{Belongs, labels_of, range_of, room_of};
+ghost use Rattle.grouping_tree.specs.Partial.{options_of};
+ghost use Rattle.grouping_tree.specs.Walk.{places_below, places_left};
+ghost use Rattle.pack_model.specs.declared.item.Item.{Item};
+ghost use Rattle.pack_model.specs.Problem.{Parts};
+ghost use Rattle.tree_search.specs.declared.finding.Finding.{Finding};
+ghost use Rattle.tree_search.specs.Shown.{GoesOn, IsAt, IsOf, agenda, items_of, start_of};
+ghost use Rattle.tree_search.specs.Step.{Searched, Step, Steps};
+ghost use Rattle.tree_search.specs.Trim.{reaches, trim as trim_of};
+
+use crate::finding::{Finding, Found};
+use crate::judge::Judge;
+use crate::node::Node;
+use crate::tree::tree_of;
+use crate::trimming::trim;
+use cert_text::Tree;
+use grouping_tree::Partial;
+use pack_model::{Labels, Memory, Problem};
+use std::alloc::Global;
+
+/// A search over the partial groupings that extend the one at which it began: depth first, options by
+/// ascending label.
+#[derive(Drop)]
+pub struct Search {
+    /// The partial grouping at the first open leaf.
+    partial: Partial,
+    /// The number of labels at which the search began.
+    base: usize,
+    /// The nodes that are done, in preorder.
+    nodes: Vec<Node>,
+    /// Some leaf is open; else the search is done, and the partial grouping is that of its start.
+    open: bool,
+    /// The best load so far, in ticks a common period.
+    best: Option<u128>,
+    /// The grouping that was found last.
+    found: Option<Found>,
+    alloc: Global,
+}
+
+impl Search {
+    /// A search that begins at a partial grouping: one open leaf, and nothing found. It takes no memory.
+    pub fn new(alloc: Global, problem: &Problem, partial: Partial, best: Option<u128>) -> Search
+        requires { Belongs problem.now partial }
+        ensures search { IsOf problem.now result }
+        ensures items { items_of problem.now result ≡ range_of problem.now partial }
+        ensures start { start_of result ≡ labels_of partial }
+        ensures room { room_of result.partial ≡ room_of partial }
+        ensures at { IsAt problem.now result (record { tree = left; best = best; found = None }) }
+    {
+        let base = partial.labels().len();
+        Search {
+            partial,
+            base,
+            nodes: Vec::new(alloc),
+            open: true,
+            best,
+            found: None,
+            alloc,
+        }
+    }
+
+    /// Whether an open leaf is left.
+    pub fn pending(&self) -> bool
+        ensures { result ≡ self.now.open }
+    {
+        self.open
+    }
+
+    /// The best load so far, in ticks a common period.
+    pub fn best(&self) -> Option<u128>
+        ensures { result ≡ self.now.best }
+    {
+        self.best
+    }
+
+    /// The grouping that was found last.
+    pub fn found(&self) -> Option<&Found>
+        ensures { option_copied result ≡ self.now.found }
+    {
+        self.found.as_ref()
+    }
+
+    /// Takes the grouping that was found last away.
+    pub fn take_found(&mut self) -> Option<Found>
+        ensures found { result ≡ self.old.found }
+        ensures rest { self.new ≡ record self.old { found = None } }
+    {
+        self.found.take()
+    }
+
+    /// How many nodes besides open leaves its tree has.
+    pub fn count(&self) -> usize
+        ensures { result ≡ length self.now.nodes.items }
+    {
+        self.nodes.len()
+    }
+
+    // The open leaf becomes a node without subtrees.
+    fn close(&mut self, problem: &Problem, node: Node) -> Result<(), Memory>
+        requires { IsOf problem.now self.old }
+        ensures goes_on { OnOk result (GoesOn problem.now self.old self.new) }
+        ensures nodes { OnOk result (self.new.nodes.items ≡ self.old.nodes.items ++ node ∷ []) }
+        ensures best { self.new.best ≡ self.old.best }
+        ensures found { self.new.found ≡ self.old.found }
+        ensures rest { OnOk result
+            (agenda (items_of problem.now self.old) self.old.base (labels_of self.new.partial) self.new.open
+            ≡ places_left (items_of problem.now self.old) self.old.base (labels_of self.old.partial)) }
+    {
+        self.nodes.push(node)?;
+        self.open = self.partial.leave(problem, self.base);
+        Ok(())
+    }
+
+    // The open leaf becomes an inner node with an open leaf for each option.
+    fn part(&mut self, problem: &Problem) -> Result<(), Memory>
+        requires search { IsOf problem.now self.old }
+        requires open { self.old.open ≡ true }
+        requires left { length (labels_of self.old.partial) < length (items_of problem.now self.old) }
+        ensures goes_on { OnOk result (GoesOn problem.now self.old self.new) }
+        ensures nodes { OnOk result (self.new.nodes.items ≡ self.old.nodes.items
+            ++ Node.Inner
+            (length (options_of (items_of problem.now self.old) (labels_of self.old.partial))) ∷ []) }
+        ensures best { self.new.best ≡ self.old.best }
+        ensures found { self.new.found ≡ self.old.found }
+        ensures rest { OnOk result
+            (agenda (items_of problem.now self.old) self.old.base (labels_of self.new.partial) self.new.open
+            ≡ places_below (items_of problem.now self.old) (labels_of self.old.partial)
+            ++ places_left (items_of problem.now self.old) self.old.base (labels_of self.old.partial)) }
+    {
+        let count = self.partial.options(problem);
+        self.nodes.push(Node::Inner(count as usize))?;
+        self.partial.enter(problem);
+        Ok(())
+    }
+
+    // A complete grouping is the best one now.
+    fn complete(&mut self, problem: &Problem, load: u128, order: Labels) -> Result<(), Memory>
+        requires { IsOf problem.now self.old }
+        ensures goes_on { OnOk result (GoesOn problem.now self.old self.new) }
+        ensures nodes { OnOk result (self.new.nodes.items ≡ self.old.nodes.items ++ Node.Bound ∷ []) }
+        ensures best { OnOk result (self.new.best ≡ Some load) }
+        ensures found { OnOk result (self.new.found
+            ≡ Some (record { labels = labels_of self.old.partial; order = order; load = load })) }
+        ensures rest { OnOk result
+            (agenda (items_of problem.now self.old) self.old.base (labels_of self.new.partial) self.new.open
+            ≡ places_left (items_of problem.now self.old) self.old.base (labels_of self.old.partial)) }
+    {
+        let labels = Labels::of(Vec::from_slice(self.alloc, self.partial.labels())?);
+        self.best = Some(load);
+        self.found = Some(Found {
+            labels,
+            order,
+            load,
+        });
+        self.close(problem, Node::Bound)?;
+        Ok(())
+    }
+
+    // A step.
+    fn step<J: Judge>(&mut self, judge: &mut J, problem: &Problem) -> Result<(), Memory>
+        requires search { IsOf problem.now self.old }
+        requires open { self.old.open ≡ true }
+        ensures goes_on { OnOk result (GoesOn problem.now self.old self.new) }
+        ensures count { OnOk result (length self.new.nodes.items ≡ length self.old.nodes.items + 1) }
+        ensures bounds { J.bound_of judge.new ≡ J.bound_of judge.old }
+        ensures same { (parts : Parts) (items : List Item) (load : Option ℕ) (p : List ℕ) (finding : Finding)
+            → J.finds judge.new parts items load p finding → J.finds judge.old parts items load p finding }
+        ensures gives { OnOk result ((x : Searched) → IsAt problem.now self.old x → (y : Searched)
+            × Step (J.finds judge.old problem.now (items_of problem.now self.old))
+            (items_of problem.now self.old) (start_of self.old) x y
+            × IsAt problem.now self.new y) }
+    {
+        let finding = judge.find(problem, &self.partial, self.best)?;
+        match finding {
+            Finding::Bounded => {
+                self.close(problem, Node::Bound)?;
+                Ok(())
+            }
+            Finding::Failed(refuted) => {
+                self.close(problem, Node::Fail(refuted))?;
+                Ok(())
+            }
+            Finding::Complete { load, order } => {
+                self.complete(problem, load, order)?;
+                Ok(())
+            }
+            Finding::Parted => {
+                self.part(problem)?;
+                Ok(())
+            }
+        }
+    }
+
+    /// Makes at most so many steps, and answers how many: fewer only where no leaf is open then. After an error
+    /// nothing is known of the search, and it can only be dropped.
+    pub fn advance<J: Judge>(
+        &mut self,
+        judge: &mut J,
+        problem: &Problem,
+        steps: u64,
+    ) -> Result<u64, Memory>
+        requires { IsOf problem.now self.old }
+        ensures goes_on { OnOk result (GoesOn problem.now self.old self.new) }
+        ensures count { IfOk result
+            (λ made. length self.new.nodes.items ≡ length self.old.nodes.items + made) }
+        ensures within { IfOk result (λ made. made ≤ steps) }
+        ensures fewer { IfOk result (λ made. made < steps → self.new.open ≡ false) }
+        ensures bounds { J.bound_of judge.new ≡ J.bound_of judge.old }
+        ensures same { (parts : Parts) (items : List Item) (load : Option ℕ) (p : List ℕ) (finding : Finding)
+            → J.finds judge.new parts items load p finding → J.finds judge.old parts items load p finding }
+        // Each step is one of what the judge finds.
+        ensures gives { IfOk result (λ made. (x : Searched) → IsAt problem.now self.old x → (y : Searched)
+            × Steps (J.finds judge.old problem.now (items_of problem.now self.old))
+            (items_of problem.now self.old) (start_of self.old) made x y
+            × IsAt problem.now self.new y) }
+    {
+        let mut made = 0;
+        while made < steps && self.open {
+            self.step(judge, problem)?;
+            made += 1;
+        }
+        Ok(made)
+    }
+
+    /// Its tree, with an open leaf at each place that is still to come.
+    pub fn into_tree(self, alloc: Global, problem: &Problem) -> Result<Tree, Memory>
+        requires { IsOf problem.now self }
+        ensures { IfOk result (λ tree. (x : Searched) → IsAt problem.now self x → plain_of tree ≡ x.tree) }
+    {
+        let Search {
+            mut partial,
+            base,
+            mut nodes,
+            open,
+            best: _best,
+            found: _found,
+            alloc: _alloc,
+        } = self;
+        leave_open(problem, &mut partial, base, &mut nodes, open)?;
+        let tree = tree_of(alloc, nodes)?;
+        Ok(tree)
+    }
+
+    /// Its tree, where no leaf is open, trimmed: an inner node whose lower bound reaches `value`, in eighths of
+    /// ticks a common period, becomes a bound leaf, from the root down.
+    pub fn into_trimmed<J: Judge>(
+        self,
+        alloc: Global,
+        judge: &J,
+        problem: &Problem,
+        value: u128,
+    ) -> Result<Tree, Memory>
+        requires search { IsOf problem.now self }
+        requires done { self.open ≡ false }
+        requires tree { (x : Searched) × IsAt problem.now self x }
+        ensures { IfOk result (λ tree. (x : Searched) → IsAt problem.now self x
+            → plain_of tree ≡ trim_of (items_of problem.now self)
+            (reaches (J.bound_of judge.now problem.now (items_of problem.now self)) value)
+            (start_of self) x.tree) }
+    {
+        let Search {
+            mut partial,
+            base: _base,
+            nodes,
+            open: _open,
+            best: _best,
+            found: _found,
+            alloc: _alloc,
+        } = self;
+        let kept = trim(alloc, judge, problem, &mut partial, nodes, value)?;
+        let tree = tree_of(alloc, kept)?;
+        Ok(tree)
+    }
+}
+
+// Puts an open leaf for each place that is open where a walk below its first `base` labels stands.
+fn leave_open(
+    problem: &Problem,
+    partial: &mut Partial,
+    base: usize,
+    nodes: &mut Vec<Node>,
+    is_open: bool,
+) -> Result<(), Memory>
+    requires belongs { Belongs problem.now partial.old }
+    requires below { base ≤ length (labels_of partial.old) }
+    ensures { OnOk result (nodes.new.items ≡ nodes.old.items
+        ++ replicate (length (agenda (range_of problem.now partial.old) base (labels_of partial.old) is_open))
+        Node.Left) }
+{
+    let mut more = is_open;
+    while more {
+        nodes.push(Node::Left)?;
+        more = partial.leave(problem, base);
+    }
+    Ok(())
+}

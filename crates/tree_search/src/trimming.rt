@@ -1,0 +1,216 @@
+//! Trimming of a flat tree.
+ghost use Rattle.std.specs.Prelude.{◌≡◌, ◌≤◌, ◌<◌, ◌-◌, ◌+◌, ◌^◌, ◌∷◌, ℕ, List, true, false, length, take, OnOk, IfOk};
+ghost use Rattle.cert_text.specs.PlainTree.{plain_of};
+ghost use Rattle.cert_text.specs.Trees.{Plain};
+ghost use Rattle.grouping_tree.specs.Grouped.{Belongs, labels_of, range_of, room_of};
+ghost use Rattle.tree_search.specs.Flat.{flat, subtrees};
+ghost use Rattle.tree_search.specs.Open.{HasOptions};
+ghost use Rattle.tree_search.specs.Shown.{agenda};
+ghost use Rattle.tree_search.specs.Trim.{Trims, reaches, trim as trim_of};
+
+use crate::judge::Judge;
+use crate::node::Node;
+use crate::tree::{flatten, tree_of};
+use cert_text::Tree;
+use grouping_tree::Partial;
+use pack_model::{Memory, Problem};
+use std::alloc::Global;
+
+// How far a trimming in preorder is.
+#[derive(Drop)]
+struct Trimming {
+    // The number of labels at the root.
+    base: usize,
+    // Some place is still to come.
+    open: bool,
+    // How many trees are to be passed over.
+    skip: usize,
+    // The nodes that are kept.
+    kept: Vec<Node>,
+}
+
+impl Trimming {
+    // Reads a node of a tree that is passed over.
+    fn pass_over(&mut self, node: &Node)
+        requires some { 0 < self.old.skip }
+        requires room { self.old.skip - 1 + subtrees node.now < 2 ^ 64 }
+        ensures { self.new ≡ record self.old { skip = self.old.skip - 1 + subtrees node.now } }
+    {
+        self.skip -= 1;
+        if let Node::Inner(count) = node {
+            self.skip += *count;
+        }
+    }
+
+    // Reads the node at the place, where none is passed over.
+    fn read<J: Judge>(
+        &mut self,
+        judge: &J,
+        problem: &Problem,
+        partial: &mut Partial,
+        value: u128,
+        node: Node,
+    ) -> Result<(), Memory>
+        requires belongs { Belongs problem.now partial.old }
+        requires below { self.old.base ≤ length (labels_of partial.old) }
+        requires open { self.old.open ≡ true }
+        requires none { self.old.skip ≡ 0 }
+        requires left { (n : ℕ) → node ≡ Node.Inner n
+            → length (labels_of partial.old) < length (range_of problem.now partial.old) }
+        ensures belongs { Belongs problem.now partial.new }
+        ensures range { range_of problem.now partial.new ≡ range_of problem.now partial.old }
+        ensures room { room_of partial.new ≡ room_of partial.old }
+        ensures base { self.new.base ≡ self.old.base }
+        ensures below { self.old.base ≤ length (labels_of partial.new) }
+        ensures front { take self.old.base (labels_of partial.new)
+            ≡ take self.old.base (labels_of partial.old) }
+        ensures done { OnOk result (self.new.open ≡ false
+            → labels_of partial.new ≡ take self.old.base (labels_of partial.old)) }
+        ensures gives { OnOk result (let items = range_of problem.now partial.old
+            in let cut = reaches (J.bound_of judge.now problem.now items) value
+            in (wanted rest : List Node)
+            → Trims items cut wanted self.old.kept.items (node ∷ rest) 0
+            (agenda items self.old.base (labels_of partial.old) true)
+            → Trims items cut wanted self.new.kept.items rest self.new.skip
+            (agenda items self.old.base (labels_of partial.new) self.new.open)) }
+    {
+        match node {
+            Node::Inner(count) => {
+                if is_cut(judge, problem, partial, value) {
+                    self.kept.push(Node::Bound)?;
+                    self.skip = count;
+                    self.open = partial.leave(problem, self.base);
+                    return Ok(());
+                }
+                self.kept.push(Node::Inner(count))?;
+                partial.enter(problem);
+                Ok(())
+            }
+            _ => {
+                self.kept.push(node)?;
+                self.open = partial.leave(problem, self.base);
+                Ok(())
+            }
+        }
+    }
+
+    // Reads a node: of a tree that is passed over, or at the place.
+    fn take<J: Judge>(
+        &mut self,
+        judge: &J,
+        problem: &Problem,
+        partial: &mut Partial,
+        value: u128,
+        node: Node,
+    ) -> Result<(), Memory>
+        requires belongs { Belongs problem.now partial.old }
+        requires below { self.old.base ≤ length (labels_of partial.old) }
+        requires trims { let items = range_of problem.now partial.old
+            in let cut = reaches (J.bound_of judge.now problem.now items) value
+            in (wanted : List Node) × (rest : List Node) × (length rest < 2 ^ 64)
+            × Trims items cut wanted self.old.kept.items (node ∷ rest) self.old.skip
+            (agenda items self.old.base (labels_of partial.old) self.old.open) }
+        ensures belongs { Belongs problem.now partial.new }
+        ensures range { range_of problem.now partial.new ≡ range_of problem.now partial.old }
+        ensures room { room_of partial.new ≡ room_of partial.old }
+        ensures base { self.new.base ≡ self.old.base }
+        ensures below { self.old.base ≤ length (labels_of partial.new) }
+        ensures front { take self.old.base (labels_of partial.new)
+            ≡ take self.old.base (labels_of partial.old) }
+        ensures done { OnOk result
+            ((self.old.open ≡ false → labels_of partial.old ≡ take self.old.base (labels_of partial.old))
+            → self.new.open ≡ false → labels_of partial.new ≡ take self.old.base (labels_of partial.old)) }
+        ensures gives { OnOk result (let items = range_of problem.now partial.old
+            in let cut = reaches (J.bound_of judge.now problem.now items) value
+            in (wanted rest : List Node)
+            → Trims items cut wanted self.old.kept.items (node ∷ rest) self.old.skip
+            (agenda items self.old.base (labels_of partial.old) self.old.open)
+            → Trims items cut wanted self.new.kept.items rest self.new.skip
+            (agenda items self.old.base (labels_of partial.new) self.new.open)) }
+    {
+        if self.skip > 0 {
+            self.pass_over(&node);
+            return Ok(());
+        }
+        self.read(judge, problem, partial, value, node)?;
+        Ok(())
+    }
+}
+
+// Whether the lower bound at a partial grouping reaches a value.
+fn is_cut<J: Judge>(judge: &J, problem: &Problem, partial: &Partial, value: u128) -> bool
+    requires { Belongs problem.now partial.now }
+    ensures { result ≡ reaches (J.bound_of judge.now problem.now (range_of problem.now partial.now)) value
+        (labels_of partial.now) }
+{
+    value <= judge.lower8(problem, partial)
+}
+
+/// The nodes of the trimmed tree, where the tree of the nodes stands at a partial grouping: an inner node whose
+/// lower bound reaches `value`, in eighths of ticks a common period, becomes a bound leaf, from the root down. The
+/// partial grouping is as before then.
+pub fn trim<J: Judge>(
+    alloc: Global,
+    judge: &J,
+    problem: &Problem,
+    partial: &mut Partial,
+    nodes: Vec<Node>,
+    value: u128,
+) -> Result<Vec<Node>, Memory>
+    requires belongs { Belongs problem.now partial.old }
+    requires tree { (t : Plain) × (flat t ≡ nodes.items)
+        × HasOptions (range_of problem.now partial.old) (labels_of partial.old) t }
+    ensures belongs { Belongs problem.now partial.new }
+    ensures range { range_of problem.now partial.new ≡ range_of problem.now partial.old }
+    ensures room { room_of partial.new ≡ room_of partial.old }
+    ensures labels { OnOk result (labels_of partial.new ≡ labels_of partial.old) }
+    ensures trimmed { IfOk result (λ kept. let items = range_of problem.now partial.old
+        in let cut = reaches (J.bound_of judge.now problem.now items) value
+        in (t : Plain) → flat t ≡ nodes.items → HasOptions items (labels_of partial.old) t
+        → flat (trim_of items cut (labels_of partial.old) t) ≡ kept.items) }
+{
+    let mut rest = nodes;
+    rest.reverse();
+    let mut trimming = Trimming {
+        base: partial.labels().len(),
+        open: true,
+        skip: 0,
+        kept: Vec::new(alloc),
+    };
+    while let Some(node) = rest.pop() {
+        trimming.take(judge, problem, partial, value, node)?;
+    }
+    let Trimming {
+        base: _base,
+        open: _open,
+        skip: _skip,
+        kept,
+    } = trimming;
+    Ok(kept)
+}
+
+/// The trimmed tree of one that stands at a partial grouping, which is as before then.
+pub fn trim_tree<J: Judge>(
+    alloc: Global,
+    judge: &J,
+    problem: &Problem,
+    partial: &mut Partial,
+    tree: Tree,
+    value: u128,
+) -> Result<Tree, Memory>
+    requires belongs { Belongs problem.now partial.old }
+    requires tree { HasOptions (range_of problem.now partial.old) (labels_of partial.old) (plain_of tree) }
+    ensures belongs { Belongs problem.now partial.new }
+    ensures range { range_of problem.now partial.new ≡ range_of problem.now partial.old }
+    ensures room { room_of partial.new ≡ room_of partial.old }
+    ensures labels { OnOk result (labels_of partial.new ≡ labels_of partial.old) }
+    ensures trimmed { IfOk result (λ trimmed. let items = range_of problem.now partial.old
+        in plain_of trimmed ≡ trim_of items (reaches (J.bound_of judge.now problem.now items) value)
+        (labels_of partial.old) (plain_of tree)) }
+{
+    let mut nodes = Vec::new(alloc);
+    flatten(tree, &mut nodes)?;
+    let kept = trim(alloc, judge, problem, partial, nodes, value)?;
+    let trimmed = tree_of(alloc, kept)?;
+    Ok(trimmed)
+}
