@@ -14,6 +14,7 @@ use Rattle.cert_text.specs.Trees.{Plain, fail}
 use Rattle.cert_text.specs.declared.parts.Kind.TheVariants.{KindBetween, KindBest, KindNoSolution}
 use Rattle.bandwidth_bound.specs.Bounds.{Reaches}
 use Rattle.bandwidth_bound.specs.Follows.{EachReaches, HasTiming, NoneIsBetter, NoneIsSolvable}
+use Rattle.bandwidth_bound.specs.Lemmas.{LemmasHold}
 use Rattle.bandwidth_bound.specs.Rule.{ClassesFail, Judged, RuleHolds, load_in, lower_in, main_goal}
 use Rattle.bandwidth_bound.specs.Solvable.{Solvable}
 use Rattle.bandwidth_bound.specs.Timing.{AllPass}
@@ -46,8 +47,9 @@ LeavesCover = (items : List Item) (lower8 : List ℕ → ℕ) (value : Option �
 
 -- the same of a part of a main tree
 abbrev pub MainLeavesCover : Type 0
-MainLeavesCover = (problem : Parts) (best : Option ℕ) (may_leave : Bool) (p q : List ℕ) (tree : Plain)
-    → IsLegal problem.items q → TreeStands (main_goal problem best may_leave) p tree → begins p q ≡ true
+MainLeavesCover = (problem : Parts) (values : List ℕ) (best : Option ℕ) (may_leave : Bool) (p q : List ℕ)
+    (tree : Plain) → IsLegal problem.items q
+    → TreeStands (main_goal problem values best may_leave) p tree → begins p q ≡ true
     → ExtendsOneLeaf problem.items p tree q
 
 -- a grouping has at least the best's load, if there is a best
@@ -56,17 +58,18 @@ ReachesBest problem best labels =
     Reaches (option_map (λ load. 8 * load) best) (8 * load_of problem problem.items labels)
 
 -- each grouping that extends the place of a standing part of a main tree and can meet all deadlines has at
--- least the best's load or extends the place of an open leaf
+-- least the best's load or extends the place of an open leaf, where the values of the lemmas hold
 abbrev pub TreesClaim : Type 0
-TreesClaim = (problem : Parts) (best : Option ℕ) (may_leave : Bool) (p q : List ℕ) (tree : Plain)
-    → IsProblem problem → TreeStands (main_goal problem best may_leave) p tree → Solvable problem q
+TreesClaim = (problem : Parts) (values : List ℕ) (best : Option ℕ) (may_leave : Bool) (p q : List ℕ)
+    (tree : Plain) → IsProblem problem → LemmasHold problem values
+    → TreeStands (main_goal problem values best may_leave) p tree → Solvable problem q
     → begins p q ≡ true
     → ReachesBest problem best q ⊎ (extends_some (open_places problem.items p tree) q ≡ true)
 
 -- where no leaf may be left open, none is
 abbrev pub NoneIsOpen : Type 0
-NoneIsOpen = (problem : Parts) (best : Option ℕ) (p : List ℕ) (tree : Plain)
-    → TreeStands (main_goal problem best false) p tree → open_places problem.items p tree ≡ []
+NoneIsOpen = (problem : Parts) (values : List ℕ) (best : Option ℕ) (p : List ℕ) (tree : Plain)
+    → TreeStands (main_goal problem values best false) p tree → open_places problem.items p tree ≡ []
 
 -- what the trees of a certificate show: of the kind `best` no grouping that can meet all deadlines has a
 -- smaller load, of `none` there is no such grouping, and of `open` each has at least the bound

@@ -11,7 +11,6 @@ use Rattle.class_frame.specs.Classes.{frames_of_classes, load_of}
 use Rattle.class_frame.specs.Grouping.{class_of, classes_of}
 use Rattle.class_frame.specs.Legal.{IsLegal}
 use Rattle.grouping_tree.specs.Partial.{IsPartial, begins}
-use Rattle.bandwidth_bound.specs.Bounds.{lower8_of}
 use Rattle.bandwidth_bound.specs.Failing.{AreRefuted, numbers_of}
 use Rattle.bandwidth_bound.specs.Rule.{ClassesFail}
 use Rattle.bandwidth_bound.specs.Solvable.{Solvable}
@@ -34,12 +33,6 @@ abbrev pub LoadsNeverFall : Type 0
 LoadsNeverFall = (problem : Parts) → IsProblem problem → (items : List Item) → AreOf problem items
     → (p q : List ℕ) → IsPartial items p → IsPartial items q → begins p q ≡ true
     → load_of problem items p ≤ load_of problem items q
-
--- the bound at a partial grouping is at most 8 times the load of each legal grouping that extends it
-abbrev pub BoundIsBelow : Type 0
-BoundIsBelow = (problem : Parts) → IsProblem problem → (items : List Item) → AreOf problem items
-    → (p q : List ℕ) → IsPartial items p → IsLegal items q → begins p q ≡ true
-    → lower8_of problem items p ≤ 8 * load_of problem items q
 
 -- frames that are refuted below each other are a failing set
 abbrev pub RefutedIsFailing : Type 0

@@ -4,6 +4,7 @@ pub mod Covering
 pub mod Failing
 pub mod Follows
 pub mod Laws
+pub mod Lemmas
 pub mod Loads
 pub mod PriceLaws
 pub mod Prices

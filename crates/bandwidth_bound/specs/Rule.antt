@@ -14,8 +14,9 @@ use Rattle.cert_text.specs.declared.parts.Kind.TheVariants.{KindPlaced, KindTime
 use Rattle.cert_text.specs.declared.parts.FrameLine.{FrameLine}
 use Rattle.cert_text.specs.Parts.{CertParts}
 use Rattle.cert_text.specs.Trees.{Plain}
-use Rattle.bandwidth_bound.specs.Bounds.{lower8_of}
 use Rattle.bandwidth_bound.specs.Failing.{AreRefuted}
+use Rattle.bandwidth_bound.specs.Lemmas.{LemmasStand, values_of}
+use Rattle.bandwidth_bound.specs.Prices.{lower8_of}
 use Rattle.bandwidth_bound.specs.Trees.{Goal, TreeStands, open_places}
 use Rattle.bandwidth_bound.specs.declared.verdict.Verdict.{Verdict}
 use Rattle.bandwidth_bound.specs.declared.verdict.Verdict.TheVariants as verdict
@@ -59,20 +60,22 @@ abbrev pub ClassesFail : Parts → List ℕ → List (ℕ × Evidence) → Type 
 ClassesFail problem p named =
     AreRefuted (frames_of_classes problem problem.items p) problem.network.nominal_ticks problem.hyper named
 
--- what the main tree is to show: that each grouping reaches the best, or can't meet all deadlines
-abbrev pub main_goal : Parts → Option ℕ → Bool → Goal
-main_goal problem best may_leave = record {
+-- what the main tree is to show, by bounds with the values of lemmas: that each grouping reaches the best, or
+-- can't meet all deadlines
+abbrev pub main_goal : Parts → List ℕ → Option ℕ → Bool → Goal
+main_goal problem values best may_leave = record {
   items = problem.items;
-  lower8 = lower8_of problem problem.items;
+  lower8 = lower8_of problem values problem.items;
   value = option_map (λ load. 8 * load) best;
   may_leave = may_leave;
   AreFailing = ClassesFail problem;
 }
 
 -- the main tree stands at the empty grouping
-abbrev pub MainStands : Parts → Option ℕ → Bool → Option Plain → Type 0
-MainStands problem best may_leave None = ⊥
-MainStands problem best may_leave (Some tree) = TreeStands (main_goal problem best may_leave) [] tree
+abbrev pub MainStands : Parts → List ℕ → Option ℕ → Bool → Option Plain → Type 0
+MainStands problem values best may_leave None = ⊥
+MainStands problem values best may_leave (Some tree) =
+    TreeStands (main_goal problem values best may_leave) [] tree
 
 -- the places of the open leaves of the main tree
 abbrev pub open_of : Parts → Option Plain → List (List ℕ)
@@ -80,27 +83,31 @@ open_of problem None = []
 open_of problem (Some tree) = open_places problem.items [] tree
 
 -- the least bound at the open leaves of the main tree, in eighths
-abbrev pub least_open : Parts → Option Plain → ℕ
-least_open problem tree = least (map (lower8_of problem problem.items) (open_of problem tree))
+abbrev pub least_open : Parts → List ℕ → Option Plain → ℕ
+least_open problem values tree =
+    least (map (lower8_of problem values problem.items) (open_of problem tree))
 
 -- the bound that a certificate of the kind `open` shows, in eighths: the least at its open leaves, and the
 -- best
-abbrev pub lower_of : Parts → Option ℕ → Option Plain → ℕ
-lower_of problem None tree = least_open problem tree
-lower_of problem (Some best) tree = min (least_open problem tree) (8 * best)
+abbrev pub lower_of : Parts → List ℕ → Option ℕ → Option Plain → ℕ
+lower_of problem values None tree = least_open problem values tree
+lower_of problem values (Some best) tree = min (least_open problem values tree) (8 * best)
 
--- the tree part by kind: the kinds `placed` and `timed` have no trees; for the others there is no lemma yet,
--- and the main tree stands, for `open` with open leaves, and at least one
+-- the lemmas stand, and the main tree stands with their values
+pub record TreesStand (problem : Parts) (best : Option ℕ) (may_leave : Bool)
+    (cert : CertParts) : Type 0 where
+  pub lemmas : LemmasStand problem cert.lemmas
+  pub main : MainStands problem (values_of problem cert.lemmas) best may_leave cert.main_tree
+
+-- the tree part by kind: the kinds `placed` and `timed` have no trees; for the others the trees stand, for
+-- `open` with open leaves in the main tree, and at least one
 abbrev pub TreeOfKind : Kind → Parts → List MatrixRow → CertParts → Type 0
 TreeOfKind KindPlaced problem rows cert = ⊤
 TreeOfKind KindTimed problem rows cert = ⊤
 TreeOfKind KindBetween problem rows cert =
-    (cert.lemmas ≡ []) × MainStands problem (best_of problem rows) true cert.main_tree
-    × (1 ≤ length (open_of problem cert.main_tree))
-TreeOfKind KindBest problem rows cert =
-    (cert.lemmas ≡ []) × MainStands problem (best_of problem rows) false cert.main_tree
-TreeOfKind KindNoSolution problem rows cert =
-    (cert.lemmas ≡ []) × MainStands problem (best_of problem rows) false cert.main_tree
+    TreesStand problem (best_of problem rows) true cert × (1 ≤ length (open_of problem cert.main_tree))
+TreeOfKind KindBest problem rows cert = TreesStand problem (best_of problem rows) false cert
+TreeOfKind KindNoSolution problem rows cert = TreesStand problem (best_of problem rows) false cert
 
 -- the matrix part of the rule
 abbrev pub MatrixHolds : Judged → Type 0
@@ -126,7 +133,9 @@ load_in judged = load_of judged.problem judged.problem.items (grouping_of judged
 
 -- the bound that the certificate shows, in eighths of ticks a common period
 abbrev pub lower_in : Judged → ℕ
-lower_in judged = lower_of judged.problem (best_of judged.problem judged.matrix) judged.cert.main_tree
+lower_in judged =
+    lower_of judged.problem (values_of judged.problem judged.cert.lemmas)
+    (best_of judged.problem judged.matrix) judged.cert.main_tree
 
 -- the verdict is that of the kind, with the matrix's load and the bound where it names them
 abbrev pub IsOfKind : Verdict → Judged → Type 0

@@ -1,4 +1,5 @@
 pub mod Grouped
 pub mod Laws
 pub mod Partial
+pub mod Slack
 pub mod Walk
