@@ -1,7 +1,6 @@
 -- What trees that stand show of groupings: the project's own.
 use Rattle.std.specs.Prelude.{◌≡◌, ◌<◌, ◌*◌, ◌⊎◌, ℕ, Bool, true, false, List, [], count_by, Contains, Option, None, Some}
 use Rattle.std.specs.List.{list_any}
-use Rattle.std.specs.Option.{option_map}
 use Rattle.pack_model.specs.declared.item.Item.{Item}
 use Rattle.pack_model.specs.Problem.{Parts, IsProblem}
 use Rattle.class_frame.specs.Classes.{load_of}
@@ -15,7 +14,8 @@ use Rattle.cert_text.specs.declared.parts.Kind.TheVariants.{KindBetween, KindBes
 use Rattle.bandwidth_bound.specs.Bounds.{Reaches}
 use Rattle.bandwidth_bound.specs.Follows.{EachReaches, HasTiming, NoneIsBetter, NoneIsSolvable}
 use Rattle.bandwidth_bound.specs.Lemmas.{LemmasHold}
-use Rattle.bandwidth_bound.specs.Rule.{ClassesFail, Judged, RuleHolds, load_in, lower_in, main_goal}
+use Rattle.bandwidth_bound.specs.Goals.{ClassesFail, eighths, main_goal}
+use Rattle.bandwidth_bound.specs.Rule.{Judged, RuleHolds, load_in, lower_in}
 use Rattle.bandwidth_bound.specs.Solvable.{Solvable}
 use Rattle.bandwidth_bound.specs.Timing.{AllPass}
 use Rattle.bandwidth_bound.specs.Trees.{Goal, Leaf, TreeStands, leaves, open_places}
@@ -55,7 +55,7 @@ MainLeavesCover = (problem : Parts) (values : List ℕ) (best : Option ℕ) (may
 -- a grouping has at least the best's load, if there is a best
 abbrev pub ReachesBest : Parts → Option ℕ → List ℕ → Type 0
 ReachesBest problem best labels =
-    Reaches (option_map (λ load. 8 * load) best) (8 * load_of problem problem.items labels)
+    Reaches (eighths best) (8 * load_of problem problem.items labels)
 
 -- each grouping that extends the place of a standing part of a main tree and can meet all deadlines has at
 -- least the best's load or extends the place of an open leaf, where the values of the lemmas hold

@@ -12,7 +12,7 @@ use Rattle.class_frame.specs.Grouping.{class_of, classes_of}
 use Rattle.class_frame.specs.Legal.{IsLegal}
 use Rattle.grouping_tree.specs.Partial.{IsPartial, begins}
 use Rattle.bandwidth_bound.specs.Failing.{AreRefuted, numbers_of}
-use Rattle.bandwidth_bound.specs.Rule.{ClassesFail}
+use Rattle.bandwidth_bound.specs.Goals.{ClassesFail}
 use Rattle.bandwidth_bound.specs.Solvable.{Solvable}
 
 -- the items are among those of the problem: all, or one sender's

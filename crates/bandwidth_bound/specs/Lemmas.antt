@@ -1,6 +1,6 @@
 -- Lemmas: what the frames of one sender load at least, each shown by a tree over its groupings. The project's
 -- own.
-use Rattle.std.specs.Prelude.{ℕ, ◌≡◌, ◌≤◌, ◌<◌, ◌*◌, ◌==◌, false, List, [], ◌∷◌, length, map, All, slice_index_or, Some, if◌then◌else◌}
+use Rattle.std.specs.Prelude.{ℕ, ◌≡◌, ◌≤◌, ◌<◌, ◌*◌, ◌==◌, List, [], ◌∷◌, length, map, All, slice_index_or, if◌then◌else◌}
 use Rattle.std.specs.List.{range_with_len}
 use Rattle.std.specs.List.Sorted.{IsStrictlyIncreasing}
 use Rattle.pack_model.specs.Problem.{Parts, IsProblem, sent_by}
@@ -8,8 +8,8 @@ use Rattle.class_frame.specs.Classes.{load_of}
 use Rattle.class_frame.specs.Legal.{IsLegal}
 use Rattle.cert_text.specs.Parts.{LemmaOf}
 use Rattle.cert_text.specs.Trees.{Plain}
-use Rattle.bandwidth_bound.specs.Prices.{lower8_of}
-use Rattle.bandwidth_bound.specs.Trees.{Goal, TreeStands}
+use Rattle.bandwidth_bound.specs.Goals.{lemma_goal}
+use Rattle.bandwidth_bound.specs.Trees.{TreeStands}
 
 -- the value of the lemma of a sender, in eighths of ticks a common period; 0 where there is none
 abbrev pub value_of : List (LemmaOf Plain) → ℕ → ℕ
@@ -19,17 +19,6 @@ value_of (lemma ∷ lemmas) sender = if lemma.sender == sender then lemma.value 
 -- the values of lemmas by sender
 abbrev pub values_of : Parts → List (LemmaOf Plain) → List ℕ
 values_of problem lemmas = map (value_of lemmas) (range_with_len 0 (length problem.senders))
-
--- what the tree of a lemma is to show: that each grouping of the sender's items reaches the value, by bounds
--- without lemmas
-abbrev pub lemma_goal : Parts → ℕ → ℕ → Goal
-lemma_goal problem sender value = record {
-  items = sent_by problem.items sender;
-  lower8 = lower8_of problem [] (sent_by problem.items sender);
-  value = Some value;
-  may_leave = false;
-  AreFailing = λ p named. ⊥;
-}
 
 -- the sender of a lemma is there, and its tree stands at the empty grouping of the sender's items
 abbrev pub LemmaStands : Parts → LemmaOf Plain → Type 0

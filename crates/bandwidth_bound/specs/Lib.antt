@@ -2,7 +2,9 @@ pub mod Bounds
 pub mod Bus
 pub mod Covering
 pub mod Failing
+pub mod Floors
 pub mod Follows
+pub mod Goals
 pub mod Laws
 pub mod Lemmas
 pub mod Loads

@@ -1,11 +1,9 @@
 -- The acceptance rule: when a matrix and a certificate of a problem show a verdict, and else which part fails
 -- first.
 use Rattle.std.specs.Prelude.{◌≡◌, ◌≤◌, ◌*◌, ⊤, ℕ, min, Bool, true, false, List, [], ◌∷◌, length, map, Option, None, Some}
-use Rattle.std.specs.Option.{option_map}
 use Rattle.pack_model.specs.Problem.{Parts}
-use Rattle.class_frame.specs.Classes.{frames_of_classes, load_of}
+use Rattle.class_frame.specs.Classes.{load_of}
 use Rattle.class_frame.specs.Frame.{least}
-use Rattle.response_test.specs.declared.evidence.Evidence.{Evidence}
 use Rattle.matrix_rows.specs.declared.matrix.MatrixRow.{MatrixRow}
 use Rattle.matrix_text.specs.Frames.{grouping_of}
 use Rattle.matrix_text.specs.Placed.{Placed}
@@ -14,10 +12,10 @@ use Rattle.cert_text.specs.declared.parts.Kind.TheVariants.{KindPlaced, KindTime
 use Rattle.cert_text.specs.declared.parts.FrameLine.{FrameLine}
 use Rattle.cert_text.specs.Parts.{CertParts}
 use Rattle.cert_text.specs.Trees.{Plain}
-use Rattle.bandwidth_bound.specs.Failing.{AreRefuted}
+use Rattle.bandwidth_bound.specs.Goals.{main_goal}
 use Rattle.bandwidth_bound.specs.Lemmas.{LemmasStand, values_of}
 use Rattle.bandwidth_bound.specs.Prices.{lower8_of}
-use Rattle.bandwidth_bound.specs.Trees.{Goal, TreeStands, open_places}
+use Rattle.bandwidth_bound.specs.Trees.{TreeStands, open_places}
 use Rattle.bandwidth_bound.specs.declared.verdict.Verdict.{Verdict}
 use Rattle.bandwidth_bound.specs.declared.verdict.Verdict.TheVariants as verdict
 use Rattle.bandwidth_bound.specs.declared.verdict.Part.{Part}
@@ -54,22 +52,6 @@ TimingOfKind KindNoSolution problem rows lines = lines ≡ []
 abbrev pub best_of : Parts → List MatrixRow → Option ℕ
 best_of problem [] = None
 best_of problem (row ∷ rows) = Some (load_of problem problem.items (grouping_of problem (row ∷ rows)))
-
--- the classes that a fail leaf names are refuted at a partial grouping of all items
-abbrev pub ClassesFail : Parts → List ℕ → List (ℕ × Evidence) → Type 0
-ClassesFail problem p named =
-    AreRefuted (frames_of_classes problem problem.items p) problem.network.nominal_ticks problem.hyper named
-
--- what the main tree is to show, by bounds with the values of lemmas: that each grouping reaches the best, or
--- can't meet all deadlines
-abbrev pub main_goal : Parts → List ℕ → Option ℕ → Bool → Goal
-main_goal problem values best may_leave = record {
-  items = problem.items;
-  lower8 = lower8_of problem values problem.items;
-  value = option_map (λ load. 8 * load) best;
-  may_leave = may_leave;
-  AreFailing = ClassesFail problem;
-}
 
 -- the main tree stands at the empty grouping
 abbrev pub MainStands : Parts → List ℕ → Option ℕ → Bool → Option Plain → Type 0

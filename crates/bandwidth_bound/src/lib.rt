@@ -12,6 +12,7 @@ mod failing;
 #[cfg(test)]
 mod failing_tests;
 mod final_laws;
+mod floors;
 mod price_laws;
 mod verdict;
 
@@ -20,6 +21,7 @@ pub use covering::{
     fail_leaves_hold, leaves_cover, shown_is_solvable, standing_trees_claim, standing_trees_hold,
 };
 pub use failing::refutes;
+pub use floors::Floors;
 pub use final_laws::{
     bound_is_below, classes_extend, fail_set_is_final, failing_is_final, failing_sets_grow,
     loads_never_fall, refuted_is_failing,
