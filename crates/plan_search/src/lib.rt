@@ -1,13 +1,17 @@
 //! The planning of a matrix and its certificate.
 //!
-//! So far one plan is made: [`plan_alone`] gives each item a frame of its own, in an order in which each
-//! frame passes the response-time test, wherever there is one, and shows it by a certificate of the kind
-//! `timed`.
+//! The one contract that upper crates use is that of [`plan`]: what is planned within a budget of branches, which the
+//! acceptance rule accepts. [`plan_alone`] gives each item a frame of its own, in an order in which each frame passes
+//! the response-time test, wherever there is one, and shows it by a certificate of the kind `timed`.
 #![tactic(auto)]
 
 mod alone;
 mod laws;
 mod lines;
+mod plan;
+mod planned;
 
 pub use alone::{Alone, load_alone, plan_alone};
-pub use laws::plan_alone_is_one;
+pub use laws::{plan_alone_is_one, plan_is_one};
+pub use plan::plan;
+pub use planned::Planned;

@@ -1,16 +1,12 @@
 -- What is found shows what it says, and what the tree of a search then shows.
 use Rattle.std.specs.Prelude.{◌≤◌, ◌<◌, ◌*◌, ⊤, ℕ, Bool, List, length, Option, Some, None}
-use Rattle.std.specs.Option.{option_map}
 use Rattle.pack_model.specs.declared.item.Item.{Item}
 use Rattle.response_test.specs.declared.evidence.Evidence.{Evidence}
 use Rattle.bandwidth_bound.specs.Bounds.{Reaches}
+use Rattle.bandwidth_bound.specs.Goals.{eighths}
 use Rattle.bandwidth_bound.specs.Trees.{Goal}
 use Rattle.tree_search.specs.declared.finding.Finding.{Finding}
 use Rattle.tree_search.specs.declared.finding.Finding.TheVariants.{Bounded, Failed, Complete, Parted}
-
--- the number that bounds are to reach for a best load, if there is one
-abbrev pub eighths : Option ℕ → Option ℕ
-eighths best = option_map (λ load. 8 * load) best
 
 -- the second best load is no greater than the first
 abbrev pub IsNoWorse : Option ℕ → Option ℕ → Type 0

