@@ -55,7 +55,8 @@ sent_few s ys =
 -- of a sender's items all are of that sender, and none of another
 pub sent_same : (s : ℕ) (ys : List Item) → sent_by (sent_by ys s) s ≡ sent_by ys s
 sent_same s ys =
-    filter_kept (λ item. nat_eq item.sender s) (sent_by ys s) (filter_passes (λ item. nat_eq item.sender s) ys)
+    filter_kept (λ item. nat_eq item.sender s) (sent_by ys s)
+    (filter_passes (λ item. nat_eq item.sender s) ys)
 
 pub sent_other : (s k : ℕ) (ys : List Item) → (k ≡ s → ⊥) → sent_by (sent_by ys s) k ≡ []
 sent_other s k ys ne =

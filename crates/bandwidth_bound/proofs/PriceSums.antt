@@ -108,7 +108,8 @@ prices-within Right cost slack price one none items p q right whole e =
               (λ label. cost (class_of label q items) + slack (class_of label p items)) order each,
           sum_by-plus (λ label. cost (class_of label p items))
               (λ label. sum_by price (class_of label r rest)) order,
-          sum_by-plus (λ label. cost (class_of label q items)) (λ label. slack (class_of label p items)) order,
+          sum_by-plus (λ label. cost (class_of label q items))
+              (λ label. slack (class_of label p items)) order,
           prices,
           costs,
           slacks,
