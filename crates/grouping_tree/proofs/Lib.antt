@@ -4,6 +4,7 @@ pub mod Loads
 pub mod Options
 pub mod Puts
 pub mod Senders
+pub mod Slacks
 pub mod Steps
 pub mod Used
 pub mod Walks
