@@ -204,6 +204,12 @@ item_sender problem p i d item b lt =
     sender_is problem (get_or (range_of problem p) i item) (get_or p.items.items i d)
     (in_range (λ (item : Item). item.sender ≤ top) p.first p.many problem.items b.inside (senders_low problem b.stands) i item here) (b.items i d item here)
 
+-- and that of the next item
+pub next_sender : (problem : Parts) (p : Partial) (next : Sums) (d : Item) → Belongs problem p → IsNext problem p next → next.first_sender ≡ (get_or (range_of problem p) (length (labels_of p)) d).sender
+next_sender problem p next d b is =
+    sender_is problem (get_or (range_of problem p) (length (labels_of p)) d) next
+    (in_range (λ (item : Item). item.sender ≤ top) p.first p.many problem.items b.inside (senders_low problem b.stands) (length (labels_of p)) d is.some) (is.sums d)
+
 -- a later item of a range is of no lower sender
 range_rises : (problem : Parts) (p : Partial) (i j : ℕ) (d e : Item) → Belongs problem p → i ≤ j → j < p.many → (get_or (range_of problem p) i d).sender ≤ (get_or (range_of problem p) j e).sender
 range_rises problem p i j d e b le lt =
@@ -244,12 +250,8 @@ slack_put problem p label next b is low class =
     let range = range_of problem p in
     let n = length (labels_of p) in
     let (item, at) = element range n is.some in
-    let many : n < p.many = omega (arith, is.some, long problem p b) in
     let put = slacks_put problem range (labels_of p) label item low (class_next label (labels_of p) range item is.some at) class in
-    let own : next.first_sender ≡ item.sender =
-    sender_is problem item next
-    (subst (λ (x : Item). x.sender ≤ top) (sym at) (in_range (λ (item : Item). item.sender ≤ top) p.first p.many problem.items b.inside (senders_low problem b.stands) n item is.some))
-    (is.sums item ∙ ap (λ x. sums_of problem (x ∷ [])) (sym at)) in
+    let own : next.first_sender ≡ item.sender = next_sender problem p next item b is ∙ ap (λ (x : Item). x.sender) (sym at) in
     let work : sender_in_work range (labels_of p ++ label ∷ []) ≡ Some item.sender =
     ap (λ m. last_sender (take m range)) (length-append (labels_of p) (label ∷ [])) ∙ last-take range n item is.some ∙ ap (λ (x : Item). Some x.sender) (sym at) in
     let after : slack_at problem range (labels_of p ++ label ∷ []) ≡ slacks_of problem item.sender range (labels_of p ++ label ∷ []) = ap (slack_in_work problem range (labels_of p ++ label ∷ [])) work in
