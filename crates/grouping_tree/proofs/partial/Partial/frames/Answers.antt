@@ -1,11 +1,11 @@
-use Rattle.std.proofs.Common.{length, arith, ap}
+use Rattle.std.proofs.Common.{◌≤◌, length, length-take-le, arith, ap, sym}
 use Rattle.grouping_tree.proofs.After.{frames_are, frames_bit, frames_common, frames_count, frames_few, frames_in_range, frames_within}
 use Rattle.grouping_tree.proofs.partial.Partial.frames.Goals as goal
 
 pub slice_bounds-result-end : goal.slice_bounds-result-end
 slice_bounds-result-end c =
     let (problem, b) = c.requires in
-    omega (arith, frames_within problem c.args.self.now b, ap length c.deref.ensures.value)
+    sym (length-take-le c.args.self.now.classes c.deref.result.now (omega (arith, frames_within problem c.args.self.now b, ap length c.deref.ensures.value)))
 
 pub returns-clause-value : goal.returns-clause-value
 returns-clause-value c = λ problem b. frames_are problem c.args.self.now b c.deref.result.now c.deref.ensures.value
