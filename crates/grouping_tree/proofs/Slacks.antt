@@ -1,7 +1,7 @@
 -- The slack of a class and of the classes of a sender: how large, where there are none, and after one more label.
-use Rattle.std.proofs.Common.{◌≡◌, ℕ, zero, suc, ◌+◌, ◌*◌, ◌/◌, ◌<◌, ◌≤◌, ◌⊎◌, inl, inr, Bool, true, false, cond, if◌then◌else◌, nat_eq, List, [], ◌∷◌, ◌++◌, length, take, get_or, unwrap_or, Option, Some, None, All, refl, sym, ap, subst, ◌∙◌, arith, length-append}
+use Rattle.std.proofs.Common.{◌≡◌, ℕ, zero, suc, ◌+◌, ◌*◌, ◌/◌, ◌<◌, ◌≤◌, Bool, true, false, cond, nat_eq, List, [], ◌∷◌, ◌++◌, length, take, get_or, unwrap_or, Option, Some, None, All, refl, sym, ap, subst, ◌∙◌, arith, length-append}
 use Rattle.std.proofs.Math.Nat.{div-le_self, mul-le-mul}
-use Rattle.std.proofs.lemmas.Bool.{eq-eqb, ne_eqb}
+use Rattle.std.proofs.lemmas.Bool.{eq-eqb}
 use Rattle.std.proofs.lemmas.List.{take_more}
 use Rattle.std.proofs.lemmas.List.Elements.{All-head}
 use Rattle.fd_length.specs.Size.{fd_size_of}
@@ -9,11 +9,11 @@ use Rattle.fd_length.proofs.Sizes.{IsSize-at_most, IsFdSize-from_value}
 use Rattle.pack_model.specs.declared.item.Item.{Item}
 use Rattle.pack_model.specs.Problem.{Parts, IsProblem}
 use Rattle.pack_model.proofs.Laws.{tests}
-use Rattle.class_frame.specs.Frame.{bytes_of_items, period_of_items, size_of_items}
+use Rattle.class_frame.specs.Frame.{bytes_of_items, period_of_items}
 use Rattle.class_frame.specs.Grouping.{class_of, classes_of}
 use Rattle.class_frame.specs.Legal.{ClassStands}
 use Rattle.class_frame.proofs.GroupingLaws.{All-class_of, class_of-take}
-use Rattle.grouping_tree.specs.Slack.{at_sender, free_bits_of, last_sender, over_classes, slack_of, slacks_of}
+use Rattle.grouping_tree.specs.Slack.{at_sender, free_bits_of, last_sender, slack_of, slacks_of}
 use Rattle.grouping_tree.proofs.Loads.{over_put, sum_most}
 use Rattle.grouping_tree.proofs.Senders.{Rises}
 

@@ -1,16 +1,13 @@
 -- What putting and taking back a label leave of what is kept of each label.
-use Rattle.std.proofs.Common.{◌≡◌, ℕ, ◌+◌, ◌<◌, ◌≤◌, ◌⊎◌, inl, inr, zero, suc, Bool, true, false, cond, nat_eq, List, [], ◌∷◌, ◌++◌, length, map, filter, get_or, take, drop, set, refl, sym, ap, subst, ◌∙◌, arith, append-nil, length-take-le}
+use Rattle.std.proofs.Common.{◌≡◌, ℕ, ◌+◌, ◌<◌, ◌≤◌, ◌⊎◌, inl, inr, zero, suc, Bool, true, false, cond, nat_eq, List, [], ◌∷◌, ◌++◌, length, map, filter, get_or, take, drop, set, refl, sym, ap, subst, ◌∙◌, arith, length-take-le}
 use Rattle.std.specs.List.{zip}
 use Rattle.std.proofs.lemmas.Bool.{cases_eq, eq-eqb, ne_eqb}
 use Rattle.std.proofs.lemmas.Grind.{get_or-set_at}
 use Rattle.std.proofs.lemmas.List.{take_more, take_more_set, take-set, take-set-le, get_or-set_other, get_or-take, get_or-drop, length-drop}
 use Rattle.pack_model.specs.declared.item.Item.{Item}
-use Rattle.pack_model.specs.Problem.{Parts}
 use Rattle.class_frame.specs.Grouping.{class_of}
 use Rattle.class_frame.proofs.GroupingLaws.{class_of-cons}
 use Rattle.grouping_tree.proofs.Classes.{class-stays}
-use Rattle.class_frame.specs.declared.sums.Sums.{Sums}
-use Rattle.class_frame.specs.Sums.{sums_of, AreSums}
 
 -- one more label puts the next item into its class alone
 pub class_put : {X : Type 0} (k label : ℕ) (labels : List ℕ) (xs : List X) (x : X) → length labels < length xs → x ≡ get_or xs (length labels) x → class_of k (labels ++ label ∷ []) xs ≡ class_of k labels xs ++ cond (nat_eq label k) (x ∷ []) []

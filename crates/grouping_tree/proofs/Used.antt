@@ -182,8 +182,7 @@ pub load_put : (problem : Parts) (p : Partial) (label : ℕ) (next : Sums) → B
 load_put problem p label next b is low =
     let range = range_of problem p in
     let put = over_put (load_of_items problem) (no_load problem) range (labels_of p) label low in
-    let all = loads_low problem range (labels_of p) b.stands (λ k lt. used_signal problem p k b lt) in
-    (
+    let all = loads_low problem range (labels_of p) b.stands (λ k lt. used_signal problem p k b lt) in (
       put.1,
       omega (arith, all, classes_few problem p b, b.within, few problem p b),
       load_low problem (class_of label (labels_of p ++ label ∷ []) range) b.stands (next_signal problem p label next b is),
@@ -255,8 +254,7 @@ slack_put problem p label next b is low class =
     let work : sender_in_work range (labels_of p ++ label ∷ []) ≡ Some item.sender =
     ap (λ m. last_sender (take m range)) (length-append (labels_of p) (label ∷ [])) ∙ last-take range n item is.some ∙ ap (λ (x : Item). Some x.sender) (sym at) in
     let after : slack_at problem range (labels_of p ++ label ∷ []) ≡ slacks_of problem item.sender range (labels_of p ++ label ∷ []) = ap (slack_in_work problem range (labels_of p ++ label ∷ [])) work in
-    let before : slacks_of problem next.first_sender range (labels_of p) ≡ slacks_of problem item.sender range (labels_of p) = ap (λ s. slacks_of problem s range (labels_of p)) own in
-    (
+    let before : slacks_of problem next.first_sender range (labels_of p) ≡ slacks_of problem item.sender range (labels_of p) = ap (λ s. slacks_of problem s range (labels_of p)) own in (
       omega (arith, put.1, before),
       omega (arith, slacks_low problem next.first_sender range (labels_of p) b.stands, classes_few problem p b, b.within, few problem p b),
       slack_low problem (class_of label (labels_of p ++ label ∷ []) range) b.stands,

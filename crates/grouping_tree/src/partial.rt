@@ -165,7 +165,12 @@ impl Partial {
         self.load = 0;
         self.slack = 0;
         write_sums(&mut self.items, problem, place);
-        clear(&mut self.sums, &mut self.costs, &mut self.frames, no_frame(problem.network()));
+        clear(
+            &mut self.sums,
+            &mut self.costs,
+            &mut self.frames,
+            no_frame(problem.network()),
+        );
     }
 
     /// The number of the sender whose items the range has; none over all items.
@@ -316,7 +321,12 @@ impl Partial {
         let next = self.next_sums();
         let sums = before.sums.join(next);
         let frame = sums.timed(&self.network);
-        let share = share_of(self.hyper, frame.period, before.frame.period, before.cost.share);
+        let share = share_of(
+            self.hyper,
+            frame.period,
+            before.frame.period,
+            before.cost.share,
+        );
         let cost = Cost::of(&self.network, sums, frame, share);
         let other_loads = self.load - before.cost.load;
         let other_slacks = self.slacks_beside(next) - before.cost.slack;

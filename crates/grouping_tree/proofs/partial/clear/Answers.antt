@@ -2,7 +2,6 @@ use Rattle.std.proofs.Common.{◌≡◌, ℕ, ◌+◌, ◌<◌, ◌⊎◌, inl, 
 use Rattle.std.proofs.lemmas.Bool.{cases_eq}
 use Rattle.std.proofs.lemmas.Grind.{get_or-set_at}
 use Rattle.std.proofs.lemmas.List.{get_or-set_other}
-use Rattle.pack_model.specs.Problem.{Parts}
 use Rattle.class_frame.specs.Sums.{AreSums}
 use Rattle.grouping_tree.specs.Grouped.{IsCost}
 use Rattle.grouping_tree.proofs.partial.clear.Goals as goal

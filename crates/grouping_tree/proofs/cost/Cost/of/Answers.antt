@@ -1,4 +1,4 @@
-use Rattle.std.proofs.Common.{◌≡◌, ◌*◌, ◌/◌, sym, ap, ◌∙◌, arith, unwrap_or}
+use Rattle.std.proofs.Common.{◌≡◌, ◌*◌, sym, ap, ◌∙◌, arith, unwrap_or}
 use Rattle.class_frame.specs.Frame.{size_of_items, weight_of_items}
 use Rattle.grouping_tree.specs.Slack.{free_bits_of}
 use Rattle.grouping_tree.proofs.cost.Cost.of.Goals as goal

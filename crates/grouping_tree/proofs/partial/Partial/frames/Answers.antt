@@ -1,4 +1,4 @@
-use Rattle.std.proofs.Common.{◌≤◌, length, length-take-le, arith, ap, sym}
+use Rattle.std.proofs.Common.{length, length-take-le, arith, ap, sym}
 use Rattle.grouping_tree.proofs.After.{frames_are, frames_bit, frames_common, frames_count, frames_few, frames_in_range, frames_within}
 use Rattle.grouping_tree.proofs.partial.Partial.frames.Goals as goal
 

@@ -1,5 +1,4 @@
-use Rattle.std.proofs.Common.{ℕ, ◌≡◌, ◌<◌, ◌+◌, ◌-◌, Some, length, take, get_or, sym, ap, ◌∙◌, arith}
-use Rattle.pack_model.specs.declared.item.Item.{Item}
+use Rattle.std.proofs.Common.{ℕ, ◌≡◌, ◌<◌, ◌+◌, ◌-◌, get_or, sym, ap, ◌∙◌, arith}
 use Rattle.grouping_tree.specs.Grouped.{labels_of, range_of}
 use Rattle.grouping_tree.specs.Slack.{slack_in_work, slacks_of}
 use Rattle.grouping_tree.proofs.Steps.{element}

@@ -1,9 +1,8 @@
-use Rattle.std.proofs.Common.{◌≡◌, ◌≤◌, ◌+◌, ◌-◌, ◌<◌, [], ◌∷◌, ◌++◌, max, sym, ap, ◌∙◌, arith}
+use Rattle.std.proofs.Common.{◌≡◌, ◌+◌, max, sym, ap, ◌∙◌, arith}
 use Rattle.busy_period.specs.Timed.{IsInRange}
 use Rattle.class_frame.specs.Frame.{timed_of_items}
-use Rattle.class_frame.specs.Grouping.{class_of, classes_of}
 use Rattle.class_frame.proofs.GroupingLaws.{classes_of-push}
-use Rattle.grouping_tree.specs.Grouped.{labels_of, range_of}
+use Rattle.grouping_tree.specs.Grouped.{labels_of}
 use Rattle.grouping_tree.proofs.After.{after_cost, after_frame, after_small}
 use Rattle.grouping_tree.proofs.Used.{classes_few, counted, few, load_put, long, next_small, next_sums, put_room, slack_put}
 use Rattle.grouping_tree.proofs.partial.Partial.with_next.Goals as goal
