@@ -8,7 +8,7 @@ use Rattle.std.proofs.lemmas.List.Elements.{All-contains, All-contains_itself, A
 use Rattle.std.proofs.lemmas.List.Sums.{sum_by-cons, sum_by-le}
 use Rattle.std.proofs.lemmas.List.Sorted.{IsPermutation-refl}
 use Rattle.pack_model.specs.declared.item.Item.{Item}
-use Rattle.pack_model.specs.Problem.{Parts, IsProblem, IsSorted, items_in_order, senders_of, sent_by}
+use Rattle.pack_model.specs.Problem.{Parts, IsProblem, items_in_order, senders_of, sent_by}
 use Rattle.pack_model.proofs.ItemFacts.{IsItemOf, items_of_signals, members_within, small_items}
 use Rattle.pack_model.proofs.Laws.{tests}
 use Rattle.pack_model.proofs.OrderSteps.{all_numbered}
@@ -54,11 +54,14 @@ pub item_small : (problem : Parts) → IsProblem problem → (item : Item) → C
 item_small problem stands item there =
     All-contains (λ (item : Item). item.bits ≤ 512) problem.items item (small_items problem stands) there
 
-pub item_members : (problem : Parts) → IsSorted problem.signals problem.items → (item : Item)
-    → Contains problem.items item → All (λ place. place < length problem.signals) item.members
-item_members problem sorted item there =
+pub item_members : (problem : Parts) → IsProblem problem → (item : Item) → Contains problem.items item
+    → All (λ place. place < length problem.signals) item.members
+item_members problem stands item there =
+    let order : List Item = items_in_order problem.signals in
     All-contains (λ (item : Item). All (λ place. place < length problem.signals) item.members) problem.items
-    item (members_within problem.signals problem.items sorted) there
+    item
+    (of_problem problem stands (λ item. All (λ place. place < length problem.signals) item.members)
+    (members_within problem.signals order (IsPermutation-refl order))) there
 
 pub item_sums : (problem : Parts) → IsProblem problem → (item : Item) → Contains problem.items item
     → IsSmall (sums_of problem (item ∷ []))
@@ -84,12 +87,29 @@ weight_low item small = by (is_pdu item)
 div_low : (a b : ℕ) → a / b ≤ a
 div_low a b = omega arith
 
+pub bits_low : (bit weight : ℕ) → bit ≤ 10000 → weight ≤ 512 → 10 * bit * weight ≤ 51200000
+bits_low bit weight a b = let both : bit * weight ≤ 10000 * 512 = mul-le-mul a b in omega (arith, both)
+
 price_low : (bit weight rate : ℕ) → bit ≤ 10000 → weight ≤ 512 → rate ≤ 1000000000000000
     → 10 * bit * weight * rate ≤ 51200000000000000000000
 price_low bit weight rate a b c =
     let one : bit * weight ≤ 10000 * 512 = mul-le-mul a b in
     let all : bit * weight * rate ≤ 10000 * 512 * 1000000000000000 = mul-le-mul one c in
     omega (arith, all)
+
+-- what holds of all items of the problem holds of those of a range
+all_in : (problem : Parts) (items : List Item) → AreInRange problem items → (P : Item → Type 0)
+    → All P problem.items → All P items
+all_in problem items in_range P all = subst (All P) (sym in_range.1) (by in_range.0)
+  where
+    by : (range : Option ℕ) → All P (items_in problem.items range)
+    by None = all
+    by (Some s) = sent_all P s problem.items all
+
+pub are_of : (problem : Parts) (items : List Item) → AreInRange problem items
+    → All (Contains problem.items) items
+are_of problem items in_range =
+    all_in problem items in_range (Contains problem.items) (All-contains_itself problem.items)
 
 module _ (problem : Parts) (stands : IsProblem problem) where
   prices_low : All (λ item. price_of problem item ≤ 51200000000000000000000) problem.items
@@ -106,19 +126,8 @@ module _ (problem : Parts) (stands : IsProblem problem) where
       ))
 
   module _ (items : List Item) (in_range : AreInRange problem items) where
-    -- what holds of all items of the problem holds of those of a range
-    all_in : (P : Item → Type 0) → All P problem.items → All P items
-    all_in P all = subst (All P) (sym in_range.1) (by in_range.0)
-      where
-        by : (range : Option ℕ) → All P (items_in problem.items range)
-        by None = all
-        by (Some s) = sent_all P s problem.items all
-
-    pub are_of : All (Contains problem.items) items
-    are_of = all_in (Contains problem.items) (All-contains_itself problem.items)
-
     pub are_there : All (λ item. item.sender < length problem.senders) items
-    are_there = all_in (λ item. item.sender < length problem.senders) (senders_there problem stands)
+    are_there = all_in problem items in_range (λ item. item.sender < length problem.senders) (senders_there problem stands)
 
     pub they_rise : Rises 0 items
     they_rise = subst (Rises 0) (sym in_range.1) (by in_range.0)
@@ -141,7 +150,7 @@ module _ (problem : Parts) (stands : IsProblem problem) where
         let all = sum_by-le (price_of problem) 51200000000000000000000 (sent_by (drop place items) s)
         (sent_all (λ item. price_of problem item ≤ 51200000000000000000000) s (drop place items)
         (All-drop (λ item. price_of problem item ≤ 51200000000000000000000) place items
-        (all_in (λ item. price_of problem item ≤ 51200000000000000000000) prices_low))) in
+        (all_in problem items in_range (λ item. price_of problem item ≤ 51200000000000000000000) prices_low))) in
         omega (
           arith,
           all,

@@ -1,9 +1,11 @@
 -- What is left after so many items placed, by what is left after one more.
-use Rattle.std.proofs.Common.{◌≡◌, ℕ, zero, suc, ◌+◌, ◌-◌, ◌*◌, ◌<◌, ◌≤◌, ◌^◌, ◌⊎◌, inl, inr, Bool, true, false, cond, List, [], ◌∷◌, ◌++◌, length, take, drop, max, min, nat_eq, sum_by, Option, None, Some, All, get_or, slice_index_or, refl, sym, ap, subst, ◌∙◌, arith, take-append-drop, append-nil}
+use Rattle.std.proofs.Common.{◌≡◌, ℕ, zero, suc, ◌+◌, ◌-◌, ◌*◌, ◌<◌, ◌≤◌, ◌^◌, ◌⊎◌, inl, inr, Bool, true, false, cond, List, [], ◌∷◌, ◌++◌, length, take, drop, max, min, nat_eq, sum_by, Option, None, Some, All, IsTrue, ◌↔◌, get_or, set, slice_index_or, refl, sym, ap, subst, ◌∙◌, arith, take-append-drop, append-nil}
 use Rattle.std.specs.List.{range_with_len}
-use Rattle.std.proofs.lemmas.Bool.{cases_eq, eq-eqb, ne_eqb}
-use Rattle.std.proofs.lemmas.List.{drop_all, drop_more, take_all, take_more}
+use Rattle.std.proofs.lemmas.Bool.{cases_eq, eq-eqb, eqb-true, ne_eqb}
+use Rattle.std.proofs.lemmas.Grind.{get_or-set_at}
+use Rattle.std.proofs.lemmas.List.{drop_all, drop_more, get_or-set_other, get_or_default, take_all, take_more}
 use Rattle.std.proofs.lemmas.List.Elements.{filter-append}
+use Rattle.std.proofs.lemmas.Option.{same_Some}
 use Rattle.std.proofs.lemmas.List.Sums.{sum_by-cons}
 use Rattle.pack_model.specs.declared.item.Item.{Item}
 use Rattle.pack_model.specs.Problem.{Parts, sent_by}
@@ -175,7 +177,7 @@ module _ (problem : Parts) (values : List ℕ) where
 
     -- what is left of the item's sender
     module _ (next : Rest) (is : IsRest problem values items (place + 1) next) where
-      left_with : next.left + price_of problem item
+      pub left_with : next.left + price_of problem item
           ≡ prices_of problem (sent_by (drop place items) item.sender)
       left_with =
           let next_left : next.left ≡ prices_of problem (sent_by (drop (place + 1) items) item.sender) =
@@ -238,16 +240,17 @@ module _ (problem : Parts) (values : List ℕ) where
             (slice_index_or values item.sender 0)
             + later8_of problem values zs (item.sender + 1)) whole
 
-        pub is_first : (left : ℕ) → left ≡ next.left + price_of problem item
-            → IsRest problem values items place (record {
-              left = 0;
-              later = min (next.later + max left (slice_index_or values item.sender 0)) (2 ^ 128 - 1);
-            })
-        is_first left e = record {
+        pub is_first : (left floor later : ℕ) → left ≡ next.left + price_of problem item
+            → floor ≡ max left (slice_index_or values item.sender 0)
+            → later ≡ min (next.later + floor) (2 ^ 128 - 1)
+            → IsRest problem values items place (record { left = 0; later = later; })
+        is_first left floor later e f g = record {
           left = sym (none_of_last (last_sender (take place items)) refl);
-          later = capped next.later left (slice_index_or values item.sender 0)
+          later = g ∙ capped next.later left floor (slice_index_or values item.sender 0)
               (prices_of problem (item ∷ sent_by (drop (place + 1) items) item.sender))
-              (later8_of problem values items (item.sender + 1)) _ next_later (e ∙ left_with ∙ here) later_is;
+              (later8_of problem values items (item.sender + 1))
+              (later8_of problem values items (next_sender (last_sender (take place items))))
+              next_later (e ∙ left_with ∙ here) f later_is;
         }
           where
             here : prices_of problem (sent_by (drop place items) item.sender)
@@ -256,7 +259,48 @@ module _ (problem : Parts) (values : List ℕ) where
                 ap (λ zs. prices_of problem (sent_by zs item.sender)) fewer
                 ∙ rw (eq-eqb item.sender item.sender refl) refl
 
-            capped : (later left value prices after all : ℕ) → later ≡ min after (2 ^ 128 - 1) → left ≡ prices
-                → all ≡ max prices value + after
-                → min (later + max left value) (2 ^ 128 - 1) ≡ min all (2 ^ 128 - 1)
-            capped later left value prices after all a b c = omega arith
+            capped : (later left floor value prices after all : ℕ) → later ≡ min after (2 ^ 128 - 1)
+                → left ≡ prices → floor ≡ max left value → all ≡ max prices value + after
+                → min (later + floor) (2 ^ 128 - 1) ≡ min all (2 ^ 128 - 1)
+            capped later left floor value prices after all a b c d = omega arith
+
+-- whether the item at a place is of the sender in work
+pub in_work_is : (items : List Item) (place : ℕ) (before here d : Item) → 0 < place → place < length items
+    → IsTrue (nat_eq (get_or items (place - 1) before).sender (get_or items place here).sender)
+    ↔ (last_sender (take place items) ≡ Some (get_or items place d).sender)
+in_work_is items place before here d some below = (
+  λ t. last ∙ ap Some (eqb-true (get_or items (place - 1) before).sender (get_or items place here).sender t
+      ∙ ap (λ (x : Item). x.sender) same),
+  λ e. eq-eqb (get_or items (place - 1) before).sender (get_or items place here).sender
+      (same_Some (get_or items (place - 1) before).sender (get_or items place d).sender (sym last ∙ e)
+      ∙ ap (λ (x : Item). x.sender) (sym same)),
+)
+  where
+    same : get_or items place here ≡ get_or items place d
+    same = get_or_default items place here d below
+
+    last : last_sender (take place items) ≡ Some (get_or items (place - 1) before).sender
+    last =
+        let e : place ≡ place - 1 + 1 = omega arith in
+        let lt : place - 1 < length items = omega arith in
+        ap (λ n. last_sender (take n items)) e
+        ∙ ap last_sender (take_more items (place - 1) before lt)
+        ∙ last-push (take (place - 1) items) (get_or items (place - 1) before)
+
+-- the table with one entry more
+pub filled_more : (problem : Parts) (values : List ℕ) (items : List Item) (xs : List Rest) (place : ℕ)
+    (rest : Rest) → place < length xs → IsRest problem values items place rest
+    → ((placed : ℕ) (d : Rest) → place + 1 ≤ placed → placed ≤ length items
+    → IsRest problem values items placed (get_or xs placed d))
+    → (placed : ℕ) (d : Rest) → place ≤ placed → placed ≤ length items
+    → IsRest problem values items placed (get_or (set xs place rest) placed d)
+filled_more problem values items xs place rest below is before placed d low high = by (cases_eq placed place)
+  where
+    by : (placed ≡ place) ⊎ (placed ≡ place → ⊥)
+        → IsRest problem values items placed (get_or (set xs place rest) placed d)
+    by (inl same) =
+        subst (λ r. IsRest problem values items placed r) (sym (get_or-set_at xs place placed rest d same below))
+        (subst (λ k. IsRest problem values items k rest) (sym same) is)
+    by (inr ne) =
+        subst (λ r. IsRest problem values items placed r) (sym (get_or-set_other xs place placed rest d ne))
+        (before placed d (omega (arith, ne, low)) high)

@@ -1,6 +1,6 @@
 //! What the items that are not placed cost at least, and the lower bound by it.
 ghost use Rattle.std.specs.Prelude.{◌≡◌, ◌≤◌, ◌<◌, ◌+◌, ◌↔◌, ℕ, List, Option, Some, length, take, slice_index_or, count_by, nat_eq, nat_lt, Contains, IfOk, IfSome, IsTrue};
-ghost use Rattle.pack_model.specs.Problem.{Parts};
+ghost use Rattle.pack_model.specs.Problem.{IsProblem, Parts};
 ghost use Rattle.pack_model.specs.declared.item.Item.{Item};
 ghost use Rattle.grouping_tree.specs.Grouped.{Belongs, items_in, labels_of, range_of, sender_of};
 ghost use Rattle.grouping_tree.specs.Slack.{last_sender};
@@ -75,8 +75,8 @@ pub struct Rest {
 impl Rest {
     /// Where all items are placed nothing is left.
     pub fn none() -> Rest
-        ensures { (problem : Parts) (values : List ℕ) (items : List Item) → AreInRange problem items
-            → IsRest problem values items (length items) result }
+        ensures { (problem : Parts) (values : List ℕ) (items : List Item) → IsProblem problem
+            → AreInRange problem items → IsRest problem values items (length items) result }
     {
         Rest { left: 0, later: 0 }
     }
@@ -119,7 +119,8 @@ impl Rest {
 
 /// The items of a sender of the problem, or all.
 pub fn items_of<'a>(problem: &'a Problem, range: Option<u32>) -> &'a [Item]
-    ensures { result.now ≡ items_in problem.now.items range }
+    ensures items { result.now ≡ items_in problem.now.items range }
+    ensures problem { IsProblem problem.now }
 {
     let items = problem.items();
     match range {
@@ -166,7 +167,8 @@ fn value_at(values: &[u128], sender: u32) -> u128
 /// in eighths of ticks a common period.
 fn price(problem: &Problem, item: &Item) -> u128
     requires { Contains problem.now.items item.now }
-    ensures { result ≡ price_of problem.now item.now }
+    ensures price { result ≡ price_of problem.now item.now }
+    ensures problem { IsProblem problem.now }
 {
     let network = problem.network();
     let sums = Sums::of(problem, item);
