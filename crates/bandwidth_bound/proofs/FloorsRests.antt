@@ -221,9 +221,10 @@ module _ (problem : Parts) (values : List ℕ) where
         none_of_last (Some s) e =
             let same : item.sender ≤ item.sender = omega arith in
             let rest = (last_low 0 (take place items) item (drop (place + 1) items) rises).1 in
+            let less : s < item.sender = omega (arith, lower (Some s) e) in
             ap (λ zs. prices_of problem (sent_by zs s)) fewer
             ∙ ap (prices_of problem)
-            (none_lower item.sender s (item ∷ drop (place + 1) items) (lower (Some s) e) (same, rest))
+            (none_lower item.sender s (item ∷ drop (place + 1) items) less (same, rest))
 
         later_is : later8_of problem values items (next_sender (last_sender (take place items)))
             ≡ max (prices_of problem (item ∷ sent_by (drop (place + 1) items) item.sender))

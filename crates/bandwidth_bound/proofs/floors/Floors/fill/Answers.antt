@@ -1,5 +1,5 @@
-use Rattle.std.proofs.Common.{◌≡◌, ◌≤◌, ◌<◌, refl, length, length-set, ap, ◌∙◌, arith}
-use Rattle.bandwidth_bound.specs.declared.floors.Rest.{Rest}
+use Rattle.std.proofs.Common.{◌≡◌, ◌≤◌, ◌<◌, ◌-◌, refl, get_or, length, length-set, ap, subst, ◌∙◌, arith}
+use Rattle.bandwidth_bound.specs.Floors.{IsRest}
 use Rattle.bandwidth_bound.proofs.FloorsItems.{are_few}
 use Rattle.bandwidth_bound.proofs.FloorsRests.{filled_more}
 use Rattle.bandwidth_bound.proofs.floors.Floors.fill.Goals as goal
@@ -62,4 +62,28 @@ loop-place-preserved c =
           ))
           c.with_item-rest.ensures
           (λ placed d low high. c.loop-place.invariant.filled placed d (omega (arith, low)) high);
+    }
+
+pub returns-clause-floors : goal.returns-clause-floors
+returns-clause-floors c =
+    let problem = c.args.problem.now in
+    let items = c.items_of-items.result.now in
+    let is = c.items_of-items.ensures.items in
+    let room = are_few problem c.items_of-items.ensures.problem items (c.args.range, is) in
+    record {
+      within =
+          omega (
+            arith,
+            ap length is,
+            c.requires.room,
+            c.requires.tables,
+            room,
+            c.loop-place.invariant.room,
+            length-set c.args.self.now.rests.items (length items) c.none-rest.result,
+          );
+      each = λ placed d few.
+          subst (λ zs. IsRest problem c.args.values.now zs placed
+          (get_or c.loop-place.self.rests.items placed d)) is
+          (c.loop-place.invariant.filled placed d (omega (arith, c.loop-place-test.false))
+          (omega (arith, few, ap length is)));
     }
