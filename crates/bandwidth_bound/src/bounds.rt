@@ -26,8 +26,9 @@ pub fn lower8(partial: &Partial, problem: &Problem, lemmas: &[u128]) -> u128
         ≡ lower8_of problem.now lemmas.now (range_of problem.now partial.now) (labels_of partial.now) }
 {
     let items = items_of(problem, partial.range());
+    let placed = partial.labels().len();
     let mut rest = Rest::none();
-    for place in (partial.labels().len()..items.len()).rev() {
+    for place in (placed..items.len()).rev() {
         rest = rest.with_item(problem, items, place, lemmas);
     }
     rest.lower8(partial)

@@ -1,8 +1,6 @@
-use Rattle.std.proofs.Common.{◌≡◌, ◌≤◌, ◌<◌, ◌*◌, ◌/◌, [], ◌∷◌, sym, ap, subst, ◌∙◌, arith}
+use Rattle.std.proofs.Common.{◌≤◌, ◌*◌, ◌/◌, [], ◌∷◌, sym, ap, subst, ◌∙◌, arith}
 use Rattle.pack_model.specs.Network.{NetworkStands}
-use Rattle.class_frame.specs.Frame.{period_of_items, weight_of_item}
 use Rattle.class_frame.specs.Sums.{IsSmall}
-use Rattle.busy_period.specs.declared.timed.Timed.{Timed}
 use Rattle.bandwidth_bound.proofs.FloorsItems.{bits_low, item_has_signal, item_members, item_small, item_sums, weight_is, weight_low}
 use Rattle.bandwidth_bound.proofs.floors.price.Goals as goal
 

@@ -1,6 +1,5 @@
-use Rattle.std.proofs.Common.{◌≡◌, ◌≤◌, ◌<◌, ◌+◌, take, Some, Contains, get_or, sym, ap, subst, ◌∙◌, arith, true≢false}
+use Rattle.std.proofs.Common.{◌+◌, Some, Contains, sym, ap, subst, ◌∙◌, arith, true≢false}
 use Rattle.pack_model.specs.declared.item.Item.{Item}
-use Rattle.grouping_tree.specs.Slack.{last_sender}
 use Rattle.bandwidth_bound.proofs.FloorsItems.{are_of, are_there, prices_fit, they_rise}
 use Rattle.bandwidth_bound.proofs.FloorsRests.{in_work, is_first, left_with}
 use Rattle.bandwidth_bound.proofs.floors.Rest.with_item.Goals as goal
