@@ -21,7 +21,7 @@ pub use covering::{
     fail_leaves_hold, leaves_cover, shown_is_solvable, standing_lemmas_hold, standing_trees_claim,
     standing_trees_hold,
 };
-pub use failing::refutes;
+pub use failing::{order_below, refutes, remaining};
 pub use final_laws::{
     classes_extend, fail_set_is_final, failing_is_final, failing_sets_grow, loads_never_fall,
     refuted_is_failing,

@@ -7,6 +7,7 @@
 
 mod judge;
 mod laws;
+mod stuck;
 
 pub use judge::SearchJudge;
 pub use laws::{findings_show, one_is_found};
