@@ -119,6 +119,13 @@ pub judged : (failed : Bool) (P : Type 0) → (failed ≡ true → ¬ P) → (fa
 judged true P denied shown = (λ e. absurd (true≢false (sym e)), λ p. absurd (denied refl p))
 judged false P denied shown = (λ e. shown refl, λ p. refl)
 
+-- a lemma at its place
+pub lemma_at : (lemmas : List Lemma) (i : ℕ) (lemma : Lemma) → i < length lemmas
+    → lemma ≡ get_or lemmas i lemma
+    → plain_lemma lemma ≡ get_or (map plain_lemma lemmas) i (plain_lemma lemma)
+lemma_at lemmas i lemma inside is =
+    ap plain_lemma is ∙ sym (get_or-map plain_lemma lemmas i lemma (plain_lemma lemma) inside)
+
 -- ---- senders that ascend
 
 -- the senders of lemmas
@@ -130,15 +137,16 @@ pub senders_same : (lemmas : List Lemma)
 senders_same [] = refl
 senders_same (lemma ∷ lemmas) = ap (λ xs. lemma.sender ∷ xs) (senders_same lemmas)
 
-sender_at : (lemmas : List Lemma) (k : ℕ) (lemma : Lemma) → k < length lemmas → lemma ≡ get_or lemmas k lemma
-    → get_or (senders lemmas) k 0 ≡ lemma.sender
-sender_at lemmas k lemma inside is =
-    get_or-map (λ (l : Lemma). l.sender) lemmas k lemma 0 inside ∙ sym (ap (λ (l : Lemma). l.sender) is)
+module _ (lemmas : List Lemma) (k : ℕ) (d e : Lemma) (some : 1 ≤ k) (inside : k < length lemmas) where
+  -- the two senders
+  first : get_or (senders lemmas) (k - 1) 0 ≡ (get_or lemmas (k - 1) d).sender
+  first = get_or-map (λ (l : Lemma). l.sender) lemmas (k - 1) d 0 (omega (arith, inside))
 
-module _ (lemmas : List Lemma) (k : ℕ) (first second : Lemma) (some : 1 ≤ k) (inside : k < length lemmas)
-    (at_first : first ≡ get_or lemmas (k - 1) first) (at_second : second ≡ get_or lemmas k second) where
+  second : get_or (senders lemmas) k 0 ≡ (get_or lemmas k e).sender
+  second = get_or-map (λ (l : Lemma). l.sender) lemmas k e 0 inside
+
   -- one more sender comes after those before
-  pub rises_more : first.sender < second.sender
+  pub rises_more : (get_or lemmas (k - 1) d).sender < (get_or lemmas k e).sender
       → ((i : ℕ) → i + 1 < k → get_or (senders lemmas) i 0 < get_or (senders lemmas) (i + 1) 0)
       → (i : ℕ) → i + 1 < k + 1 → get_or (senders lemmas) i 0 < get_or (senders lemmas) (i + 1) 0
   rises_more less so_far i within = by (cases_lt (i + 1) k)
@@ -153,20 +161,14 @@ module _ (lemmas : List Lemma) (k : ℕ) (first second : Lemma) (some : 1 ≤ k)
             less,
             ap (λ n. get_or (senders lemmas) n 0) here,
             ap (λ n. get_or (senders lemmas) n 0) next,
-            sender_at lemmas (k - 1) first (omega (arith, inside)) at_first,
-            sender_at lemmas k second inside at_second,
+            first,
+            second,
           )
 
   -- or it does not
-  pub falls : second.sender ≤ first.sender → ¬ IsStrictlyIncreasing (senders lemmas)
+  pub falls : (get_or lemmas k e).sender ≤ (get_or lemmas (k - 1) d).sender
+      → ¬ IsStrictlyIncreasing (senders lemmas)
   falls low rises =
       let before : k - 1 + 1 ≡ k = omega (arith, some) in
       let less = rises (k - 1) (omega (arith, inside, before, length-map lemmas (λ (l : Lemma). l.sender))) in
-      omega (
-        arith,
-        low,
-        less,
-        ap (λ n. get_or (senders lemmas) n 0) before,
-        sender_at lemmas (k - 1) first (omega (arith, inside)) at_first,
-        sender_at lemmas k second inside at_second,
-      )
+      omega (arith, low, less, ap (λ n. get_or (senders lemmas) n 0) before, first, second)

@@ -1,4 +1,4 @@
-use Rattle.std.proofs.Common.{refl, sym, ◌∙◌}
+use Rattle.std.proofs.Common.{ap, arith, length, refl, sym, ◌∙◌}
 use Rattle.bandwidth_bound.specs.Lemmas.{LemmaStands}
 use Rattle.cert_text.specs.PlainTree.{plain_lemma, plain_of}
 use Rattle.cert_check.specs.Walk.{way_of}
@@ -14,7 +14,7 @@ returns-clause-stands c =
     c.begin.ensures.begins c.take_tree.ensures.takes
     (sym (c.has_failed.ensures ∙ c.keep_value.ensures.failed) ∙ failed) stands.1)
     (λ stays. (
-      omega arith,
+      omega (arith, ap length c.senders.ensures.senders),
       tree_shown c.args.problem.now _ c.begin.new.self.values.items c.begin.new.self
       (way_of c.args.problem.now c.take_tree.new.walk) (plain_of c.args.lemma.now.tree) c.begin.ensures.aim refl
       c.begin.ensures.begins c.take_tree.ensures.takes

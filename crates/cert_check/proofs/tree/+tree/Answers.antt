@@ -1,4 +1,4 @@
-use Rattle.std.proofs.Common.{◌∷◌, [], List, ap, sym, subst, ◌∙◌, length}
+use Rattle.std.proofs.Common.{◌≡◌, arith, ◌∷◌, [], List, ap, sym, subst, ◌∙◌, length}
 use Rattle.std.proofs.lemmas.List.{take_all}
 use Rattle.std.specs.List.{flat_map}
 use Rattle.cert_text.specs.declared.parts.Tree.{Tree}
@@ -9,6 +9,17 @@ use Rattle.cert_text.proofs.Trees.{plain-Bound, plain-Fail, plain-Inner, plain-L
 use Rattle.cert_check.proofs.Nexts.{keeps_on, same_goal}
 use Rattle.cert_check.proofs.Walks.{nodes_of_bound, nodes_of_fail, nodes_of_inner, nodes_of_left, takes_more}
 use Rattle.cert_check.proofs.tree.+tree.Goals as goal
+
+pub take_subtrees-loop-subtree-init : goal.take_subtrees-loop-subtree-init
+take_subtrees-loop-subtree-init t c =
+    let many : c.len.result ≡ length c.deref-subtree-items.result.now =
+    omega (arith, c.len.ensures, c.deref-subtree-items.ensures.len) in record {
+      walks = c.take_inner.ensures.walks;
+      keeps = c.take_inner.ensures.keeps;
+      takes = subst (λ n. Takes (goal_in c.args.problem.now c.args.walk.now)
+          (way_of c.args.problem.now c.args.walk.now) (way_of c.args.problem.now c.take_inner.new.self)
+          (inner_node n ∷ [])) many c.take_inner.ensures.takes;
+    }
 
 pub take_subtrees-loop-subtree-preserved : goal.take_subtrees-loop-subtree-preserved
 take_subtrees-loop-subtree-preserved t c =
