@@ -16,6 +16,7 @@ use Rattle.cert_text.specs.declared.parts.Kind.TheVariants.{KindPlaced, KindTime
 use Rattle.cert_text.specs.declared.parts.FrameLine.{FrameLine}
 use Rattle.cert_text.specs.Parts.{CertParts}
 use Rattle.bandwidth_bound.specs.Follows.{HasMatrix, HasTiming}
+use Rattle.bandwidth_bound.specs.Lemmas.{values_of}
 use Rattle.bandwidth_bound.specs.Rule.{IsOfKind, MatrixOfKind, TimingOfKind, TreeOfKind, best_of, lower_of}
 use Rattle.bandwidth_bound.specs.Timing.{TimingStands}
 use Rattle.bandwidth_bound.specs.declared.verdict.Verdict.{Verdict}
@@ -159,7 +160,7 @@ verdict_is : (kind : Kind) (problem : Parts) (rows : List MatrixRow) (cert : Cer
 verdict_is KindPlaced problem rows cert best is same load = is
 verdict_is KindTimed problem rows cert best is same load = (is, load tt)
 verdict_is KindBetween problem rows cert best is same load =
-    (is, sym same, ap (λ b. lower_of problem b cert.main_tree) (sym same))
+    (is, sym same, ap (λ b. lower_of problem (values_of problem cert.lemmas) b cert.main_tree) (sym same))
 verdict_is KindBest problem rows cert best is same load = (is, load tt)
 verdict_is KindNoSolution problem rows cert best is same load = is
 

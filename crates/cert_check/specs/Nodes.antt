@@ -1,6 +1,7 @@
 -- A walk over the nodes of a tree in preorder, which judges each at the place where it stands: the project's
 -- own.
 use Rattle.std.specs.Prelude.{◌≡◌, ◌<◌, ⊤, ℕ, suc, zero, Bool, true, false, min, List, [], ◌∷◌, ◌++◌, length, Option, None, Some}
+use Rattle.pack_model.specs.declared.item.Item.{Item}
 use Rattle.cert_text.specs.Trees.{Plain, Plains, bound, fail, inner, left, more, none}
 use Rattle.response_test.specs.declared.evidence.Evidence.{Evidence}
 use Rattle.grouping_tree.specs.Partial.{options_of}
@@ -32,11 +33,14 @@ unfoldable mutual
   nodes_of_each none = []
   nodes_of_each (more tree trees) = nodes_of tree ++ nodes_of_each trees
 
+-- items are left, and so many labels may be put next
+abbrev pub IsSplit : List Item → List ℕ → ℕ → Type 0
+IsSplit items p n = (length p < length items) × (n ≡ length (options_of items p))
+
 -- a node stands at a partial grouping: an inner node where items are left, with one subtree for each option;
--- a leaf by its
--- rule
+-- a leaf by its rule
 abbrev pub NodeStands : Goal → List ℕ → Node → Type 0
-NodeStands goal p (inner_node n) = (length p < length goal.items) × (n ≡ length (options_of goal.items p))
+NodeStands goal p (inner_node n) = IsSplit goal.items p n
 NodeStands goal p bound_leaf = Reaches goal.value (goal.lower8 p)
 NodeStands goal p open_leaf = goal.may_leave ≡ true
 NodeStands goal p (fail_leaf named) = goal.AreFailing p named

@@ -1,25 +1,29 @@
 -- What is found of the trees of a certificate, where its matrix and its times hold.
-use Rattle.std.specs.Prelude.{◌≡◌, ◌≤◌, ◌<◌, ◌*◌, ◌^◌, ⊤, ℕ, min, Bool, true, false, [], length, map, Option, None, Some, Result, Ok, Err, unwrap_or}
+use Rattle.std.specs.Prelude.{◌≡◌, ◌≤◌, ◌<◌, ◌*◌, ◌^◌, ⊤, ℕ, min, Bool, true, false, List, length, map, Option, None, Some, Result, Ok, Err, unwrap_or}
+use Rattle.std.specs.List.Sorted.{IsStrictlyIncreasing}
 use Rattle.pack_model.specs.Problem.{Parts}
 use Rattle.cert_text.specs.declared.parts.Kind.{Kind}
 use Rattle.cert_text.specs.declared.parts.Kind.TheVariants.{KindPlaced, KindTimed, KindBetween, KindBest, KindNoSolution}
-use Rattle.cert_text.specs.Parts.{CertParts}
-use Rattle.bandwidth_bound.specs.Bounds.{lower8_of}
-use Rattle.bandwidth_bound.specs.Rule.{MainStands, lower_of, open_of}
+use Rattle.cert_text.specs.Parts.{CertParts, LemmaOf}
+use Rattle.cert_text.specs.Trees.{Plain}
+use Rattle.bandwidth_bound.specs.Lemmas.{values_of}
+use Rattle.bandwidth_bound.specs.Prices.{lower8_of}
+use Rattle.bandwidth_bound.specs.Rule.{TreesStand, lower_of, open_of}
 use Rattle.bandwidth_bound.specs.declared.verdict.Verdict.{Verdict}
 use Rattle.bandwidth_bound.specs.declared.verdict.Verdict.TheVariants as verdict
 use Rattle.cert_check.specs.declared.fault.CheckFault.{CheckFault}
 use Rattle.cert_check.specs.declared.fault.CheckFault.TheVariants as fault
 use Rattle.cert_check.specs.Nodes.{lowered}
 
--- there is no lemma, and the main tree stands
-abbrev pub TreesStand : Parts → Option ℕ → Bool → CertParts → Type 0
-TreesStand problem best may_leave cert = (cert.lemmas ≡ []) × MainStands problem best may_leave cert.main_tree
+-- the lemmas are by strictly ascending sender
+abbrev pub AreAscending : List (LemmaOf Plain) → Type 0
+AreAscending lemmas = IsStrictlyIncreasing (map (λ lemma. lemma.sender) lemmas)
 
 -- the least bound at the open leaves of the main tree, if it has any
 abbrev pub least_left : Parts → CertParts → Option ℕ
 least_left problem cert =
-    lowered None (map (lower8_of problem problem.items) (open_of problem cert.main_tree))
+    lowered None
+    (map (lower8_of problem (values_of problem cert.lemmas) problem.items) (open_of problem cert.main_tree))
 
 -- the answer is that bound, where the trees stand
 abbrev pub IsWalked : Parts → Option ℕ → Bool → CertParts → Result (Option ℕ) CheckFault → Type 0
@@ -45,8 +49,7 @@ abbrev pub TreeOfBest : Kind → Parts → Option ℕ → CertParts → Type 0
 TreeOfBest KindPlaced problem best cert = ⊤
 TreeOfBest KindTimed problem best cert = ⊤
 TreeOfBest KindBetween problem best cert =
-    (cert.lemmas ≡ []) × MainStands problem best true cert.main_tree
-    × (1 ≤ length (open_of problem cert.main_tree))
+    TreesStand problem best true cert × (1 ≤ length (open_of problem cert.main_tree))
 TreeOfBest KindBest problem best cert = TreesStand problem best false cert
 TreeOfBest KindNoSolution problem best cert = TreesStand problem best false cert
 
@@ -54,7 +57,8 @@ TreeOfBest KindNoSolution problem best cert = TreesStand problem best false cert
 abbrev pub verdict_of : Kind → Parts → Option ℕ → CertParts → Verdict
 verdict_of KindPlaced problem best cert = verdict.Placed
 verdict_of KindTimed problem best cert = verdict.Timed (unwrap_or best 0)
-verdict_of KindBetween problem best cert = verdict.Between best (lower_of problem best cert.main_tree)
+verdict_of KindBetween problem best cert =
+    verdict.Between best (lower_of problem (values_of problem cert.lemmas) best cert.main_tree)
 verdict_of KindBest problem best cert = verdict.Best (unwrap_or best 0)
 verdict_of KindNoSolution problem best cert = verdict.NoSolution
 

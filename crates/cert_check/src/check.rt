@@ -17,8 +17,8 @@ use std::alloc::Global;
 ///
 /// # Errors
 ///
-/// The first part of the rule that fails: `RejectedMatrix`, `RejectedTiming` or `RejectedTree`, the last for
-/// each certificate with a lemma too; `Memory` where memory runs out.
+/// The first part of the rule that fails: `RejectedMatrix`, `RejectedTiming` or `RejectedTree`; `Memory`
+/// where memory runs out.
 pub fn check_cert(
     alloc: Global,
     problem: &Problem,

@@ -7,8 +7,8 @@
 
 mod check;
 mod fault;
-mod frames;
 mod kinds;
+mod lemmas;
 mod timing;
 mod tree;
 mod trees;

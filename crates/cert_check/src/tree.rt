@@ -3,33 +3,35 @@ ghost use Rattle.std.specs.Prelude.{map};
 ghost use Rattle.cert_text.specs.PlainTree.{onto, plain_of};
 ghost use Rattle.cert_text.specs.Trees.{inner, none};
 ghost use Rattle.cert_check.specs.Nodes.{Takes, nodes_of};
-ghost use Rattle.cert_check.specs.Walk.{IsWalk, goal_of, way_of};
+ghost use Rattle.cert_check.specs.Walk.{IsWalk, Keeps, goal_in, way_of};
 
-use crate::walk::{Aim, Walk};
+use crate::walk::Walk;
 use cert_text::Tree;
 use pack_model::Problem;
 
 /// Takes the nodes of a tree whose root is an inner node.
 #[cycle(tree)]
-fn take_subtrees(walk: &mut Walk, problem: &Problem, aim: Aim, subtrees: &Vec<Tree>)
+fn take_subtrees(walk: &mut Walk, problem: &Problem, subtrees: &Vec<Tree>)
     requires { IsWalk problem.now walk.old }
     ensures walks { IsWalk problem.now walk.new }
-    ensures takes { Takes (goal_of problem.now aim) (way_of problem.now walk.old)
+    ensures keeps { Keeps walk.old walk.new }
+    ensures takes { Takes (goal_in problem.now walk.old) (way_of problem.now walk.old)
         (way_of problem.now walk.new)
         (nodes_of (inner (onto (map plain_of subtrees.now.items) none))) }
 {
-    walk.take_inner(problem, aim, subtrees.len());
+    walk.take_inner(problem, subtrees.len());
     for subtree in subtrees {
-        take_tree(walk, problem, aim, subtree);
+        take_tree(walk, problem, subtree);
     }
 }
 
 /// Takes the nodes of a tree, as long as the walk hasn't failed.
 #[cycle(tree)]
-pub(crate) fn take_tree(walk: &mut Walk, problem: &Problem, aim: Aim, tree: &Tree)
+pub(crate) fn take_tree(walk: &mut Walk, problem: &Problem, tree: &Tree)
     requires { IsWalk problem.now walk.old }
     ensures walks { IsWalk problem.now walk.new }
-    ensures takes { Takes (goal_of problem.now aim) (way_of problem.now walk.old)
+    ensures keeps { Keeps walk.old walk.new }
+    ensures takes { Takes (goal_in problem.now walk.old) (way_of problem.now walk.old)
         (way_of problem.now walk.new)
         (nodes_of (plain_of tree.now)) }
 {
@@ -37,9 +39,9 @@ pub(crate) fn take_tree(walk: &mut Walk, problem: &Problem, aim: Aim, tree: &Tre
         return;
     }
     match tree {
-        Tree::Inner(subtrees) => take_subtrees(walk, problem, aim, subtrees),
-        Tree::Bound => walk.take_bound(problem, aim),
-        Tree::Left => walk.take_open(problem, aim),
-        Tree::Fail(refuted) => walk.take_fail(problem, aim, refuted.as_slice()),
+        Tree::Inner(subtrees) => take_subtrees(walk, problem, subtrees),
+        Tree::Bound => walk.take_bound(problem),
+        Tree::Left => walk.take_open(problem),
+        Tree::Fail(refuted) => walk.take_fail(problem, refuted.as_slice()),
     }
 }

@@ -1,12 +1,12 @@
 //! The trees of a certificate.
-ghost use Rattle.std.specs.Prelude.{◌≡◌, ◌*◌, Some, None, false, true};
-ghost use Rattle.std.specs.Option.{option_map};
-ghost use Rattle.bandwidth_bound.specs.declared.verdict.Verdict.TheVariants as verdict;
-ghost use Rattle.bandwidth_bound.specs.Rule.{lower_of};
+ghost use Rattle.std.specs.Prelude.{◌≡◌, false};
+ghost use Rattle.bandwidth_bound.specs.Goals.{eighths};
+ghost use Rattle.bandwidth_bound.specs.Rule.{TreesStand};
 ghost use Rattle.cert_text.specs.declared.parts.Kind.TheVariants.{KindBetween};
-ghost use Rattle.cert_check.specs.Trees.{HasRoom, IsAnswer, IsVerdict, IsWalked, TreeOfBest, TreesStand, lower_with};
+ghost use Rattle.cert_check.specs.Trees.{HasRoom, IsAnswer, IsVerdict, IsWalked, TreeOfBest, lower_with, verdict_of};
 
 use crate::fault::CheckFault;
+use crate::lemmas::lemmas_stand;
 use crate::tree::take_tree;
 use crate::walk::{Aim, Walk};
 use bandwidth_bound::Verdict;
@@ -17,7 +17,7 @@ use std::alloc::Global;
 /// A load in eighths.
 fn in_eighths(best: Option<u128>) -> Option<u128>
     requires { HasRoom best }
-    ensures { result ≡ option_map (λ load. 8 * load) best }
+    ensures { result ≡ eighths best }
 {
     match best {
         None => None,
@@ -48,15 +48,21 @@ fn walk_trees(
     requires { HasRoom best }
     ensures { IsWalked problem.now best may_leave cert.now result }
 {
-    if !cert.lemmas().is_empty() {
-        return Err(CheckFault::RejectedTree);
-    }
     let Some(tree) = cert.main_tree() else {
         return Err(CheckFault::RejectedTree);
     };
-    let value = in_eighths(best);
     let mut walk = Walk::new(alloc, problem)?;
-    take_tree(&mut walk, problem, Aim { value, may_leave }, tree);
+    if !lemmas_stand(&mut walk, problem, cert.lemmas()) {
+        return Err(CheckFault::RejectedTree);
+    }
+    let value = in_eighths(best);
+    let aim = Aim {
+        range: None,
+        value,
+        may_leave,
+    };
+    walk.begin(problem, aim);
+    take_tree(&mut walk, problem, tree);
     if walk.has_failed() {
         return Err(CheckFault::RejectedTree);
     }
@@ -89,7 +95,7 @@ fn judge_open(
 ) -> Result<Verdict, CheckFault>
     requires { HasRoom best }
     ensures { IsVerdict (TreeOfBest KindBetween problem.now best cert.now)
-        (verdict.Between best (lower_of problem.now best cert.now.main_tree)) result }
+        (verdict_of KindBetween problem.now best cert.now) result }
 {
     match walk_trees(alloc, problem, cert, best, true) {
         Ok(None) => Err(CheckFault::RejectedTree),

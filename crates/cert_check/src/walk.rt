@@ -1,13 +1,13 @@
-//! The walk over the nodes of a tree.
-ghost use Rattle.std.specs.Prelude.{◌≡◌, ◌∷◌, [], ℕ, ◌↔◌, IfOk, IsTrue, Some};
-ghost use Rattle.bandwidth_bound.specs.Bounds.{lower8_of};
-ghost use Rattle.bandwidth_bound.specs.Rule.{ClassesFail};
+//! The walk over the nodes of trees.
+ghost use Rattle.std.specs.Prelude.{◌≡◌, ◌<◌, ◌∷◌, [], ℕ, ◌↔◌, IfOk, IfSome, IsTrue, None, Some, length, replicate, slice_set};
+ghost use Rattle.bandwidth_bound.specs.Goals.{ClassesFail};
+ghost use Rattle.bandwidth_bound.specs.Prices.{lower8_of};
 ghost use Rattle.grouping_tree.specs.Grouped.{labels_of};
-ghost use Rattle.cert_check.specs.Nodes.{lowered, inner_node, bound_leaf, open_leaf, fail_leaf};
-ghost use Rattle.cert_check.specs.Walk.{HasPlace, IsWalk, Passes, StandsNext, TakesOne, start, way_of};
+ghost use Rattle.pack_model.specs.Problem.{Parts};
+ghost use Rattle.cert_check.specs.Nodes.{IsSplit, lowered, inner_node, bound_leaf, open_leaf, fail_leaf};
+ghost use Rattle.cert_check.specs.Walk.{HasPlace, IsReady, IsWalk, Keeps, Passes, StandsNext, TakesOne, items_of, start, values_in, values_used, way_of};
 
-use crate::frames::frames_at;
-use bandwidth_bound::{lower8, refutes};
+use bandwidth_bound::{Floors, refutes};
 use grouping_tree::Partial;
 use pack_model::{Memory, Problem};
 use response_test::Evidence;
@@ -16,6 +16,9 @@ use std::alloc::Global;
 /// What a tree is to show.
 #[derive(Clone, Copy, Debug, PartialEq, Eq)]
 pub struct Aim {
+    /// The number of the sender over whose items the tree is; none over all items. Of one sender's items alone
+    /// no fail leaf stands.
+    pub range: Option<u32>,
     /// What the bound at each bound leaf is to reach, in eighths of ticks a common period, if there is a
     /// best.
     pub value: Option<u128>,
@@ -33,12 +36,28 @@ fn least_with(least: Option<u128>, bound: u128) -> u128
     }
 }
 
-/// A walk over the nodes of a tree in preorder, which judges each at the place where it stands. Where a node
-/// doesn't stand there the walk fails, and from then on it stays failed.
+/// The values of lemmas that bounds use: over one sender's items none.
+fn values_in(range: Option<u32>, values: &[u128]) -> &[u128]
+    ensures { result.now ≡ values_in range values.now }
+{
+    match range {
+        None => values,
+        Some(_) => &values[..0],
+    }
+}
+
+/// A walk over the nodes of one tree after another in preorder, which judges each at the place where it stands.
+/// Where a node doesn't stand there the walk fails, and stays failed until the next tree begins.
 #[derive(Drop)]
 pub struct Walk {
+    /// What the tree is to show.
+    aim: Aim,
+    /// The values of the lemmas so far by sender, in eighths of ticks a common period, 0 where there is none.
+    values: Vec<u128>,
     /// The place of the next node.
     partial: Partial,
+    /// What the items that are not placed cost at least.
+    floors: Floors,
     /// No node is to come.
     over: bool,
     /// Some node didn't stand.
@@ -48,17 +67,55 @@ pub struct Walk {
 }
 
 impl Walk {
-    /// A walk that begins at the empty grouping of all items. It takes all the memory that later calls need.
+    /// A walk that has no tree yet, and no lemmas. It takes all the memory that later calls need.
     pub fn new(alloc: Global, problem: &Problem) -> Result<Walk, Memory>
-        ensures walks { IfOk result (IsWalk problem.now) }
-        ensures begins { IfOk result (λ walk. way_of problem.now walk ≡ start) }
+        ensures ready { IfOk result (IsReady problem.now) }
+        ensures values { IfOk result (λ walk.
+            walk.values.items ≡ replicate (length problem.now.senders) 0) }
     {
         Ok(Walk {
+            aim: Aim {
+                range: None,
+                value: None,
+                may_leave: false,
+            },
+            values: vec![in alloc; 0; problem.senders().len()]?,
             partial: Partial::whole(alloc, problem)?,
-            over: false,
+            floors: Floors::new(alloc, problem)?,
+            over: true,
             failed: false,
             least: None,
         })
+    }
+
+    /// Begins a tree at the empty grouping of its range. Bounds over one sender's items use no lemmas; those
+    /// over all items use the values that were kept. It takes no memory.
+    pub fn begin(&mut self, problem: &Problem, aim: Aim)
+        requires ready { IsReady problem.now self.old }
+        requires range { IfSome aim.range (λ sender. sender < length problem.now.senders) }
+        ensures walks { IsWalk problem.now self.new }
+        ensures begins { way_of problem.now self.new ≡ start }
+        ensures aim { self.new.aim ≡ aim }
+        ensures values { self.new.values.items ≡ self.old.values.items }
+    {
+        self.partial.restart(problem, aim.range);
+        let values = values_in(aim.range, self.values.as_slice());
+        self.floors.fill(problem, aim.range, values);
+        self.aim = aim;
+        self.over = false;
+        self.failed = false;
+        self.least = None;
+    }
+
+    /// Keeps the value of the lemma of a sender, in eighths of ticks a common period, for the trees that begin
+    /// from now on.
+    pub fn keep_value(&mut self, sender: u32, value: u128)
+        requires { sender < length self.old.values.items }
+        ensures ready { (problem : Parts) → IsReady problem self.old → IsReady problem self.new }
+        ensures values { self.new.values.items ≡ slice_set self.old.values.items sender value }
+        ensures failed { self.new.failed ≡ self.old.failed }
+    {
+        self.values[sender as usize] = value;
     }
 
     /// Whether some node didn't stand.
@@ -83,62 +140,71 @@ impl Walk {
     }
 
     /// The lower bound at the place, in eighths of ticks a common period.
-    fn lower8(&self, problem: &Problem) -> u128
-        requires { IsWalk problem.now self.now }
-        ensures { result ≡ lower8_of problem.now problem.now.items (labels_of self.now.partial) }
+    fn lower8(&self) -> u128
+        requires { (problem : Parts) × IsWalk problem self.now }
+        ensures { (problem : Parts) → IsWalk problem self.now
+            → result ≡ lower8_of problem (values_used self.now) (items_of problem self.now)
+            (labels_of self.now.partial) }
     {
-        lower8(&self.partial, problem)
+        self.floors.lower8(&self.partial)
     }
 
     /// Whether the classes that are named with evidence are refuted at the place.
     fn refutes(&self, problem: &Problem, named: &[(u32, Evidence)]) -> bool
-        requires { IsWalk problem.now self.now }
+        requires walks { IsWalk problem.now self.now }
+        requires whole { self.now.aim.range ≡ None }
         ensures { IsTrue result ↔ ClassesFail problem.now (labels_of self.now.partial) named.now }
     {
-        let frames = frames_at(&self.partial);
         let bit = u64::from(problem.network().nominal_ticks);
-        refutes(
-            &frames[..self.partial.classes() as usize],
-            bit,
-            problem.hyper(),
-            named,
-        )
+        refutes(self.partial.frames(), bit, problem.hyper(), named)
+    }
+
+    /// Whether an item is left, and as many labels may be put next as there are subtrees.
+    fn is_split(&self, problem: &Problem, subtrees: usize) -> bool
+        requires { IsWalk problem.now self.now }
+        ensures { IsTrue result ↔ IsSplit (items_of problem.now self.now) (labels_of self.now.partial) subtrees }
+    {
+        if subtrees == 0 {
+            return false;
+        }
+        subtrees == self.partial.options(problem) as usize
     }
 
     /// Whether an inner node with so many subtrees stands at the next place.
-    fn inner_stands(&self, problem: &Problem, aim: Aim, subtrees: usize) -> bool
+    fn inner_stands(&self, problem: &Problem, subtrees: usize) -> bool
         requires { IsWalk problem.now self.now }
-        ensures { IsTrue result ↔ StandsNext problem.now aim self.now (inner_node subtrees) }
+        ensures { IsTrue result ↔ StandsNext problem.now self.now (inner_node subtrees) }
     {
-        self.has_place()
-            && self.partial.labels().len() < problem.items().len()
-            && subtrees == self.partial.options(problem) as usize
+        self.has_place() && self.is_split(problem, subtrees)
     }
 
     /// Whether a bound leaf stands at the next place.
-    fn bound_stands(&self, problem: &Problem, aim: Aim) -> bool
+    fn bound_stands(&self, problem: &Problem) -> bool
         requires { IsWalk problem.now self.now }
-        ensures { IsTrue result ↔ StandsNext problem.now aim self.now bound_leaf }
+        ensures { IsTrue result ↔ StandsNext problem.now self.now bound_leaf }
     {
-        match aim.value {
+        match self.aim.value {
             None => false,
-            Some(value) => self.has_place() && value <= self.lower8(problem),
+            Some(value) => self.has_place() && value <= self.lower8(),
         }
     }
 
     /// Whether an open leaf stands at the next place.
-    fn open_stands(&self, problem: &Problem, aim: Aim) -> bool
-        ensures { IsTrue result ↔ StandsNext problem.now aim self.now open_leaf }
+    fn open_stands(&self) -> bool
+        ensures { (problem : Parts) → IsTrue result ↔ StandsNext problem self.now open_leaf }
     {
-        self.has_place() && aim.may_leave
+        self.has_place() && self.aim.may_leave
     }
 
-    /// Whether a fail leaf stands at the next place.
-    fn fail_stands(&self, problem: &Problem, aim: Aim, named: &[(u32, Evidence)]) -> bool
+    /// Whether a fail leaf stands at the next place: over one sender's items none does.
+    fn fail_stands(&self, problem: &Problem, named: &[(u32, Evidence)]) -> bool
         requires { IsWalk problem.now self.now }
-        ensures { IsTrue result ↔ StandsNext problem.now aim self.now (fail_leaf named.now) }
+        ensures { IsTrue result ↔ StandsNext problem.now self.now (fail_leaf named.now) }
     {
-        self.has_place() && self.refutes(problem, named)
+        match self.aim.range {
+            None => self.has_place() && self.refutes(problem, named),
+            Some(_) => false,
+        }
     }
 
     /// Goes on from a leaf that stands.
@@ -146,18 +212,20 @@ impl Walk {
         requires walks { IsWalk problem.now self.old }
         requires place { HasPlace self.old }
         ensures walks { IsWalk problem.now self.new }
+        ensures keeps { Keeps self.old self.new }
         ensures passes { Passes problem.now self.old self.new }
     {
         self.over = !self.partial.leave(problem, 0);
     }
 
     /// Takes an inner node with so many subtrees.
-    pub fn take_inner(&mut self, problem: &Problem, aim: Aim, subtrees: usize)
+    pub fn take_inner(&mut self, problem: &Problem, subtrees: usize)
         requires { IsWalk problem.now self.old }
         ensures walks { IsWalk problem.now self.new }
-        ensures takes { TakesOne problem.now aim self.old self.new (inner_node subtrees) }
+        ensures keeps { Keeps self.old self.new }
+        ensures takes { TakesOne problem.now self.old self.new (inner_node subtrees) }
     {
-        if !self.inner_stands(problem, aim, subtrees) {
+        if !self.inner_stands(problem, subtrees) {
             self.failed = true;
             return;
         }
@@ -165,12 +233,13 @@ impl Walk {
     }
 
     /// Takes a bound leaf.
-    pub fn take_bound(&mut self, problem: &Problem, aim: Aim)
+    pub fn take_bound(&mut self, problem: &Problem)
         requires { IsWalk problem.now self.old }
         ensures walks { IsWalk problem.now self.new }
-        ensures takes { TakesOne problem.now aim self.old self.new bound_leaf }
+        ensures keeps { Keeps self.old self.new }
+        ensures takes { TakesOne problem.now self.old self.new bound_leaf }
     {
-        if !self.bound_stands(problem, aim) {
+        if !self.bound_stands(problem) {
             self.failed = true;
             return;
         }
@@ -178,27 +247,29 @@ impl Walk {
     }
 
     /// Takes an open leaf.
-    pub fn take_open(&mut self, problem: &Problem, aim: Aim)
+    pub fn take_open(&mut self, problem: &Problem)
         requires { IsWalk problem.now self.old }
         ensures walks { IsWalk problem.now self.new }
-        ensures takes { TakesOne problem.now aim self.old self.new open_leaf }
+        ensures keeps { Keeps self.old self.new }
+        ensures takes { TakesOne problem.now self.old self.new open_leaf }
     {
-        if !self.open_stands(problem, aim) {
+        if !self.open_stands() {
             self.failed = true;
             return;
         }
-        let bound = self.lower8(problem);
+        let bound = self.lower8();
         self.pass(problem);
         self.least = Some(least_with(self.least, bound));
     }
 
     /// Takes a fail leaf.
-    pub fn take_fail(&mut self, problem: &Problem, aim: Aim, named: &[(u32, Evidence)])
+    pub fn take_fail(&mut self, problem: &Problem, named: &[(u32, Evidence)])
         requires { IsWalk problem.now self.old }
         ensures walks { IsWalk problem.now self.new }
-        ensures takes { TakesOne problem.now aim self.old self.new (fail_leaf named.now) }
+        ensures keeps { Keeps self.old self.new }
+        ensures takes { TakesOne problem.now self.old self.new (fail_leaf named.now) }
     {
-        if !self.fail_stands(problem, aim, named) {
+        if !self.fail_stands(problem, named) {
             self.failed = true;
             return;
         }

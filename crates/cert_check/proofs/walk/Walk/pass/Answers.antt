@@ -2,20 +2,20 @@ use Rattle.std.proofs.Common.{◌∷◌, List, ℕ, ap, sym, ◌∙◌, refl}
 use Rattle.pack_model.specs.declared.item.Item.{Item}
 use Rattle.grouping_tree.specs.Grouped.{labels_of}
 use Rattle.grouping_tree.specs.Walk.{places_left}
-use Rattle.cert_check.proofs.Nexts.{passed}
+use Rattle.cert_check.specs.Walk.{items_of}
+use Rattle.cert_check.proofs.Nexts.{passed, range_is}
 use Rattle.cert_check.proofs.walk.Walk.pass.Goals as goal
 
 pub returns-clause-passes : goal.returns-clause-passes
 returns-clause-passes c =
-    let items : List Item = c.args.problem.now.items in
+    let items : List Item = items_of c.args.problem.now c.args.self.now in
+    let range = range_is c.args.problem.now c.args.self.now c.requires.walks in
     let old : List ℕ = labels_of c.args.self.now.partial in
     let new : List ℕ = labels_of c.leave.new.self in record {
       failed = refl;
       least = refl;
       places = passed c.leave.result (places_left items 0 old) (new ∷ places_left items 0 new)
-          (λ went. ap (λ xs. places_left xs 0 old) (sym c.requires.walks.whole)
-          ∙ (c.leave.ensures.next went).1
-          ∙ ap (λ xs. new ∷ places_left xs 0 new) (c.leave.ensures.range ∙ c.requires.walks.whole))
-          (λ went. ap (λ xs. places_left xs 0 old) (sym c.requires.walks.whole)
-          ∙ (c.leave.ensures.none went).1);
+          (λ went. ap (λ xs. places_left xs 0 old) (sym range) ∙ (c.leave.ensures.next went).1
+          ∙ ap (λ xs. new ∷ places_left xs 0 new) (c.leave.ensures.range ∙ range))
+          (λ went. ap (λ xs. places_left xs 0 old) (sym range) ∙ (c.leave.ensures.none went).1);
     }
