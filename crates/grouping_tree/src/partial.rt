@@ -11,7 +11,6 @@ ghost use Rattle.class_frame.specs.Sums.{AreSums, IsSmall};
 ghost use Rattle.class_frame.specs.declared.sums.Sums.{Sums};
 ghost use Rattle.grouping_tree.specs.Partial.{IsPartial, keeps_legal, options_of};
 ghost use Rattle.grouping_tree.specs.Grouped.{Belongs, IsNext, IsUsed, items_in, items_with, sender_of, labels_of, range_of, room_of};
-ghost use Rattle.grouping_tree.specs.Slack.{sender_in_work, slack_in_work};
 ghost use Rattle.grouping_tree.specs.Walk.{options_from, places_below, places_left};
 
 use busy_period::Timed;
@@ -345,16 +344,6 @@ impl Partial {
             → result ≡ load_of problem (range_of problem self.now) (labels_of self.now) }
     {
         self.load
-    }
-
-    /// What the frames of the sender in work have to spare.
-    pub fn kept_slack(&self) -> u128
-        requires { (problem : Parts) × Belongs problem self.now × ⊥ }
-        ensures { (problem : Parts) → Belongs problem self.now → result ≡ slack_in_work problem
-            (range_of problem self.now) (labels_of self.now)
-            (sender_in_work (range_of problem self.now) (labels_of self.now)) }
-    {
-        0
     }
 
     /// The class of a used label as a frame, in ticks.
