@@ -1,24 +1,19 @@
 -- What is asked of the classes of a partial grouping of a range, where the range has all items.
-use Rattle.std.proofs.Common.{◌≡◌, ◌≤◌, ℕ, true, false, List, length, take, Option, Some, None, IfNone, refl, sym, ap, subst, ◌∙◌}
+use Rattle.std.proofs.Common.{◌≡◌, ℕ, false, List, Option, Some, None, IfNone, refl, sym, ap, subst, ◌∙◌}
 use Rattle.std.proofs.lemmas.Bool.{false≢true}
 use Rattle.std.specs.Option.{is_some}
 use Rattle.busy_period.specs.declared.timed.Timed.{Timed}
 use Rattle.pack_model.specs.declared.item.Item.{Item}
 use Rattle.pack_model.specs.Problem.{Parts}
 use Rattle.response_test.specs.Order.{OrderPasses}
-use Rattle.priority_assign.specs.Lowest.{IsLowestFirst}
 use Rattle.class_frame.specs.Classes.{frames_of_classes}
-use Rattle.class_frame.specs.Grouping.{classes_of}
 use Rattle.grouping_tree.specs.Grouped.{items_in}
-use Rattle.bandwidth_bound.specs.Floors.{AreFloors}
-use Rattle.bandwidth_bound.specs.declared.floors.Floors.{Floors}
-use Rattle.search_judge.specs.Findings.{CanPass, HasOrder, frames_at}
-use Rattle.search_judge.specs.Judges.{order_kept}
+use Rattle.search_judge.specs.Findings.{CanPass, frames_at}
 
 -- no sender
 pub no_sender : (range : Option ℕ) → is_some range ≡ false → range ≡ None
-no_sender None no = refl
-no_sender (Some sender) no = absurd (false≢true (sym no))
+no_sender None is = refl
+no_sender (Some sender) is = absurd (false≢true (sym is))
 
 -- what follows where nothing was found
 none_weaker : {X : Type 0} (found : Option X) (A B : Type 0) → (A → B) → IfNone found A → IfNone found B
@@ -37,9 +32,11 @@ module _ (problem : Parts) (range : Option ℕ) (items : List Item) (p : List �
   -- an order lets each class so far pass
   passes_at : (order : List ℕ) → OrderPasses frames bit order → CanPass problem range p
   passes_at order passes =
-      subst (λ r. CanPass problem r p) (sym all)
-      (order, subst (λ b. OrderPasses (frames_at problem p) b order) bit_is
-      (subst (λ fs. OrderPasses fs bit order) these passes))
+      subst (λ r. CanPass problem r p) (sym all) (
+        order,
+        subst (λ b. OrderPasses (frames_at problem p) b order) bit_is
+            (subst (λ fs. OrderPasses fs bit order) these passes),
+      )
 
   pub can_pass : {X : Type 0} (found : Option X) (order : List ℕ) → IfNone found (OrderPasses frames bit order)
       → IfNone found (CanPass problem range p)

@@ -1,8 +1,7 @@
 -- Frames that are named as stuck: they are a failing set, their evidence refutes them, and they are always the same.
-use Rattle.std.proofs.Common.{◌≡◌, ℕ, zero, suc, ◌<◌, ◌≤◌, List, [], ◌∷◌, length, map, take, get_or, All, Contains, refl, sym, ap, subst, ◌∙◌, arith, length-take}
+use Rattle.std.proofs.Common.{◌≡◌, ℕ, suc, ◌<◌, ◌≤◌, List, [], ◌∷◌, length, take, get_or, All, Contains, refl, sym, ap, subst, ◌∙◌, arith, length-take}
 use Rattle.std.specs.List.Sorted.{IsStrictlyIncreasing}
 use Rattle.std.proofs.lemmas.List.{get_or-map, length-map}
-use Rattle.std.proofs.lemmas.List.Elements.{Contains-get_or}
 use Rattle.busy_period.specs.declared.timed.Timed.{Timed}
 use Rattle.busy_period.specs.Timed.{IsInRange}
 use Rattle.busy_period.specs.Stage.{IsStage}
@@ -11,10 +10,9 @@ use Rattle.response_test.specs.Order.{FailSet, OrderPasses, others_of}
 use Rattle.response_test.specs.Queueing.{IsBit}
 use Rattle.response_test.proofs.OneEvidence.{evidence_is_one}
 use Rattle.response_test.proofs.Order.{no_order_passes}
-use Rattle.priority_assign.specs.Lowest.{IsLowestFirst}
 use Rattle.priority_assign.proofs.OneOrder.{length-names, one_stuck}
 use Rattle.priority_assign.proofs.Steps.{stuck_is_failing}
-use Rattle.bandwidth_bound.specs.Failing.{AreRefuted, RefutedBelow, numbers_of, order_below}
+use Rattle.bandwidth_bound.specs.Failing.{AreRefuted, numbers_of, order_below}
 use Rattle.bandwidth_bound.proofs.Final.{distinct_rising, order_stage}
 use Rattle.search_judge.specs.Findings.{NamesStuck}
 use Rattle.search_judge.specs.Stuck.{HasEvidence}

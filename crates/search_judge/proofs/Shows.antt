@@ -1,13 +1,9 @@
 -- What is found shows what it says, and one thing is found.
-use Rattle.std.proofs.Common.{◌≡◌, ℕ, ◌*◌, ◌<◌, ◌≤◌, inl, inr, List, [], length, Option, Some, None, refl, sym, ap, ◌∙◌, arith}
+use Rattle.std.proofs.Common.{◌≡◌, ℕ, ◌*◌, inl, inr, List, length, Option, Some, None, refl, sym, ap, ◌∙◌, arith}
 use Rattle.std.proofs.lemmas.Bool.{cases_lt}
-use Rattle.busy_period.specs.declared.timed.Timed.{Timed}
 use Rattle.pack_model.specs.declared.item.Item.{Item}
 use Rattle.pack_model.specs.Problem.{Parts, IsProblem}
 use Rattle.response_test.specs.declared.evidence.Evidence.{Evidence}
-use Rattle.response_test.specs.Order.{OrderPasses}
-use Rattle.response_test.specs.Refuted.{IsCommon}
-use Rattle.priority_assign.specs.Lowest.{IsLowestFirst}
 use Rattle.priority_assign.proofs.OneOrder.{one_order}
 use Rattle.priority_assign.proofs.Steps.{all_filled_passes}
 use Rattle.class_frame.specs.Classes.{load_of}
@@ -25,7 +21,7 @@ use Rattle.bandwidth_bound.proofs.PriceBound.{bound_is_exact}
 use Rattle.tree_search.specs.declared.finding.Finding.{Finding}
 use Rattle.tree_search.specs.declared.finding.Finding.TheVariants.{Bounded, Failed, Complete, Parted}
 use Rattle.tree_search.specs.Sound.{IsNoWorse, Shown}
-use Rattle.search_judge.specs.Findings.{CanPass, Finds, HasOrder, IsStuck, ReachesBest, frames_at}
+use Rattle.search_judge.specs.Findings.{CanPass, Finds, HasOrder, IsStuck, frames_at}
 use Rattle.search_judge.proofs.Named.{AreGiven, named_refuted, none_passes, one_stuck_set}
 
 module _ (problem : Parts) (stands : IsProblem problem) where
@@ -92,9 +88,11 @@ stuck_cannot problem stands (Some sender) p named partial stuck passes = stuck
 order_passes : (problem : Parts) → IsProblem problem → (range : Option ℕ) (p order : List ℕ)
     → IsPartial (items_in problem.items range) p → HasOrder problem range p order → CanPass problem range p
 order_passes problem stands None p order partial lowest =
-    let given : AreGiven (frames_at problem p) problem.network.nominal_ticks = given_at problem stands p partial in
-    (order, all_filled_passes (frames_at problem p) problem.network.nominal_ticks order
-    (record { in_range = given.in_range; some_bit = given.bit_is.some }) lowest.fills)
+    let given : AreGiven (frames_at problem p) problem.network.nominal_ticks = given_at problem stands p partial in (
+      order,
+      all_filled_passes (frames_at problem p) problem.network.nominal_ticks order
+          (record { in_range = given.in_range; some_bit = given.bit_is.some }) lowest.fills,
+    )
 order_passes problem stands (Some sender) p order partial none = tt
 
 -- one set is stuck

@@ -58,8 +58,7 @@ fn refute_each(
     let rest = remaining(frames, members);
     let mut named = Vec::with_capacity(alloc, members.len())?;
     for own in members {
-        let evidence =
-            evidence_against(alloc, frames, bit, hyper, members, rest.as_slice(), *own)?;
+        let evidence = evidence_against(alloc, frames, bit, hyper, members, rest.as_slice(), *own)?;
         named.push((*own, evidence))?;
     }
     Ok(Refuted::of(named))

@@ -44,7 +44,9 @@ fn both_in_one_frame(rt: HostRuntime) {
     let mut judge = SearchJudge::new(rt.alloc(), &problem, None, &[]).expect(&rt, "memory");
     let partial = Partial::whole(rt.alloc(), &problem).expect(&rt, "memory");
     let mut search = Search::new(rt.alloc(), &problem, partial, None);
-    let made = search.advance(&mut judge, &problem, 100).expect(&rt, "memory");
+    let made = search
+        .advance(&mut judge, &problem, 100)
+        .expect(&rt, "memory");
     assert_eq!(rt; made, 4);
     let found = search.take_found().expect(&rt, "a grouping");
     assert_eq!(rt; found.labels.as_slice(), [0, 0].as_slice());
