@@ -14,6 +14,7 @@ use Rattle.grouping_tree.proofs.Senders.{Rises}
 use Rattle.bandwidth_bound.specs.Floors.{IsRest, prices_left}
 use Rattle.bandwidth_bound.specs.Prices.{floor8_of, later8_of, next_sender, price_of, prices_of}
 use Rattle.bandwidth_bound.specs.declared.floors.Rest.{Rest}
+use Rattle.bandwidth_bound.proofs.PriceItems.{placed_before, sent_none, sum_none}
 
 -- the sender in work
 
@@ -30,22 +31,10 @@ last_low low [] y ys up = (omega arith, up.1)
 last_low low (x ∷ []) y ys up = (let first : x.sender ≤ y.sender = up.1.0 in omega (arith, first), up.1.1)
 last_low low (x ∷ z ∷ xs) y ys up = last_low x.sender (z ∷ xs) y ys up.1
 
--- items up to the sender in work are before the next one
+-- items up to the sender in work have none of a later one
 are_low : (low t : ℕ) (xs ys : List Item) → Rises low (xs ++ ys) → next_sender (last_sender xs) ≤ t
     → sent_by xs t ≡ []
-are_low low t [] ys up le = refl
-are_low low t (x ∷ []) ys up le = rw (ne_eqb x.sender t (λ e. omega (arith, e, le))) refl
-are_low low t (x ∷ z ∷ xs) ys up le =
-    let lt : x.sender < t = less x.sender z xs up.1 le in
-    rw (ne_eqb x.sender t (λ e. omega (arith, e, lt))) (are_low x.sender t (z ∷ xs) ys up.1 le)
-  where
-    less : (a : ℕ) (z : Item) (xs : List Item) → Rises a ((z ∷ xs) ++ ys)
-        → next_sender (last_sender (z ∷ xs)) ≤ t → a < t
-    less a z [] up le = let first : a ≤ z.sender = up.0 in omega (arith, first, le)
-    less a z (w ∷ xs) up le =
-        let first : a ≤ z.sender = up.0 in
-        let rest : z.sender < t = less z.sender w xs up.1 le in
-        omega (arith, first, rest)
+are_low low t xs ys up le = sent_none (next_sender (last_sender xs)) t xs (placed_before low xs ys up) le
 
 -- and items that rise from a number have none of a lower sender
 none_lower : (low t : ℕ) (ys : List Item) → t < low → Rises low ys → sent_by ys t ≡ []
@@ -82,16 +71,6 @@ sum_from f a (suc m) n each =
       rest,
       ap f here,
       ap (λ k. sum_by f (range_with_len (k + 1) n)) here,
-    )
-
-sum_zeros : (f : ℕ → ℕ) (a n : ℕ) → ((k : ℕ) → a ≤ k → f k ≡ 0) → sum_by f (range_with_len a n) ≡ 0
-sum_zeros f a zero each = refl
-sum_zeros f a (suc n) each =
-    omega (
-      arith,
-      sum_by-cons f a (range_with_len (a + 1) n),
-      each a (omega arith),
-      sum_zeros f (a + 1) n (λ k low. each k (omega (arith, low))),
     )
 
 module _ (problem : Parts) (values : List ℕ) where
@@ -144,7 +123,7 @@ module _ (problem : Parts) (values : List ℕ) where
       let a : ℕ = next_sender (last_sender items) in
       let same : items ++ [] ≡ items = append-nil items in
       let zeros : later8_of problem values items a ≡ 0 =
-      sum_zeros (λ t. floor8_of problem values (sent_by items t)) a (length problem.senders - a)
+      sum_none (λ t. floor8_of problem values (sent_by items t)) a a (length problem.senders - a) (omega arith)
       (λ t low. ap (floor8_of problem values) (are_low 0 t items [] (subst (Rises 0) (sym same) up) low)) in
       record {
         left = sym (ap (λ zs. prices_left problem zs (last_sender (take (length items) items))) none
@@ -199,7 +178,7 @@ module _ (problem : Parts) (values : List ℕ) where
       -- where the item's sender is in work
       pub in_work : (left : ℕ) → left ≡ next.left + price_of problem item
           → last_sender (take place items) ≡ Some item.sender
-          → IsRest problem values items place (record { left = left; later = next.later; })
+          → IsRest problem values items place (record { left = left; later = next.later })
       in_work left e same = record {
         left = e ∙ left_with ∙ ap (prices_left problem (drop place items)) (sym same);
         later = next_later
@@ -244,7 +223,7 @@ module _ (problem : Parts) (values : List ℕ) where
         pub is_first : (left floor later : ℕ) → left ≡ next.left + price_of problem item
             → floor ≡ max left (slice_index_or values item.sender 0)
             → later ≡ min (next.later + floor) (2 ^ 128 - 1)
-            → IsRest problem values items place (record { left = 0; later = later; })
+            → IsRest problem values items place (record { left = 0; later = later })
         is_first left floor later e f g = record {
           left = sym (none_of_last (last_sender (take place items)) refl);
           later = g ∙ capped next.later left floor (slice_index_or values item.sender 0)

@@ -2,7 +2,7 @@
 ghost use Rattle.std.specs.Prelude.{ℕ, ◌≡◌, ◌≤◌, ◌<◌, ◌↔◌, List, [], Option, None, Some, length, take, IsTrue, IfNone, IfOk, IfSome};
 ghost use Rattle.pack_model.specs.Problem.{Parts};
 ghost use Rattle.class_frame.specs.Grouping.{classes_of};
-ghost use Rattle.grouping_tree.specs.Grouped.{Belongs, labels_of, range_of};
+ghost use Rattle.grouping_tree.specs.Grouped.{Belongs, items_in, labels_of, range_of};
 ghost use Rattle.bandwidth_bound.specs.Bounds.{Reaches};
 ghost use Rattle.bandwidth_bound.specs.Goals.{eighths};
 ghost use Rattle.search_judge.specs.Findings.{CanPass, HasOrder, IsStuck};
@@ -41,7 +41,8 @@ impl SearchJudge {
         values: &[u128],
     ) -> Result<SearchJudge, Memory>
         requires { IfSome range (λ sender. sender < length problem.now.senders) }
-        ensures { IfOk result (IsJudge problem.now range values.now) }
+        ensures is { IfOk result (IsJudge problem.now range values.now) }
+        ensures suits { IfOk result (JudgesOver problem.now (items_in problem.now.items range)) }
     {
         let mut floors = Floors::new(alloc, problem)?;
         floors.fill(problem, range, values);
@@ -73,20 +74,19 @@ impl SearchJudge {
         }
         let frames = partial.frames();
         let bit = u64::from(problem.network().nominal_ticks);
-        let order = &mut self.order[..frames.len()];
-        let found = find_stuck(self.alloc, frames, bit, problem.hyper(), order)?;
+        let found = find_stuck(self.alloc, frames, bit, problem.hyper(), &mut self.order)?;
         Ok(found)
     }
 
     // The order of the classes that was found; none over one sender's items.
     fn kept_order(&self, partial: &Partial) -> Result<Labels, Memory>
         requires belongs { (problem : Parts) × Belongs problem partial.now }
-        requires few { classes_of (labels_of partial.now) ≤ length self.now.order.items }
+        requires room { length self.now.order.items ≡ 128 }
         ensures { IfOk result (λ order. order
             ≡ order_kept self.now.range (classes_of (labels_of partial.now)) self.now.order.items) }
     {
         let order = match self.range {
-            None => Vec::from_slice(self.alloc, &self.order[..partial.classes() as usize])?,
+            None => Vec::from_slice(self.alloc, &self.order[..partial.frames().len()])?,
             Some(_) => Vec::new(self.alloc),
         };
         Ok(Labels::of(order))

@@ -58,34 +58,34 @@ fn refute_each(
     let rest = remaining(frames, members);
     let mut named = Vec::with_capacity(alloc, members.len())?;
     for own in members {
-        let evidence =
-            evidence_against(alloc, frames, bit, hyper, members, rest.as_slice(), *own)?;
+        let evidence = evidence_against(alloc, frames, bit, hyper, members, rest.as_slice(), *own)?;
         named.push((*own, evidence))?;
     }
     Ok(Refuted::of(named))
 }
 
-// Assigns places to frames, the lowest first: how many are left without one, which come first in the order
-// then.
+// Assigns places to frames, the lowest first, in the first entries of `order`: how many are left without one,
+// which come first then.
 fn assign_places(frames: &[Timed], bit: u64, order: &mut [u32]) -> usize
     requires few { length frames.now ≤ 128 }
     requires in_range { All IsInRange frames.now }
     requires bit { IsBit frames.now bit }
-    requires length { length order.old ≡ length frames.now }
-    ensures lowest_first { IsLowestFirst frames.now bit result order.new }
-    ensures passes { result ≡ 0 → OrderPasses frames.now bit order.new }
-    ensures stuck { 0 < result → FailSet frames.now bit (take result order.new) }
+    requires room { length frames.now ≤ length order.old }
+    ensures lowest_first { IsLowestFirst frames.now bit result (take (length frames.now) order.new) }
+    ensures passes { result ≡ 0 → OrderPasses frames.now bit (take (length frames.now) order.new) }
+    ensures stuck { 0 < result
+        → FailSet frames.now bit (take result (take (length frames.now) order.new)) }
     ensures within { result ≤ length frames.now }
 {
-    match assign(frames, bit, order) {
+    match assign(frames, bit, &mut order[..frames.len()]) {
         Assigned::All => 0,
         Assigned::Stuck { remaining } => remaining,
     }
 }
 
-/// Assigns places to frames, the lowest first, and finds the evidence against those that are stuck; none where
-/// each has a place, and passes there in the order. `bit` is the time of a nominal bit, `hyper` a common period of
-/// the frames, in ticks. The only error is want of memory.
+/// Assigns places to frames, the lowest first, in the first entries of `order`, and finds the evidence against
+/// those that are stuck; none where each has a place, and passes there. `bit` is the time of a nominal bit,
+/// `hyper` a common period of the frames, in ticks. The only error is want of memory.
 pub(crate) fn find_stuck(
     alloc: Global,
     frames: &[Timed],
@@ -97,15 +97,18 @@ pub(crate) fn find_stuck(
     requires in_range { All IsInRange frames.now }
     requires bit { IsBit frames.now bit }
     requires hyper { IsCommon frames.now hyper }
-    requires length { length order.old ≡ length frames.now }
+    requires room { length frames.now ≤ length order.old }
     ensures stuck { IfOk result (λ found. IfSome found (NamesStuck frames.now bit hyper)) }
-    ensures passes { IfOk result (λ found. IfNone found (OrderPasses frames.now bit order.new)) }
-    ensures lowest_first { IfOk result (λ found. IfNone found (IsLowestFirst frames.now bit 0 order.new)) }
+    ensures passes { IfOk result (λ found. IfNone found
+        (OrderPasses frames.now bit (take (length frames.now) order.new))) }
+    ensures lowest_first { IfOk result (λ found. IfNone found
+        (IsLowestFirst frames.now bit 0 (take (length frames.now) order.new))) }
 {
     let count = assign_places(frames, bit, order);
     if count == 0 {
         return Ok(None);
     }
-    let refuted = refute_each(alloc, frames, bit, hyper, &order[..count])?;
+    let placed = &order[..frames.len()];
+    let refuted = refute_each(alloc, frames, bit, hyper, &placed[..count])?;
     Ok(Some(refuted))
 }

@@ -19,7 +19,7 @@ loop-place-init c =
     }
 
 pub loop-place-preserved : goal.loop-place-preserved
-loop-place-preserved c = record { least = omega (arith, c.loop-place-test.true); rest = c.with_item-rest.ensures; }
+loop-place-preserved c = record { least = omega (arith, c.loop-place-test.true); rest = c.with_item-rest.ensures }
 
 pub returns : goal.returns
 returns c =

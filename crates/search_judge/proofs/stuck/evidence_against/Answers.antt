@@ -1,5 +1,5 @@
 use Rattle.std.proofs.Common.{◌≡◌, ◌-◌, List, ℕ, arith, ap, ◌∙◌, length}
-use Rattle.search_judge.proofs.Members.{few_members, member_evidence, member_fails, member_stage, order_room}
+use Rattle.search_judge.proofs.Members.{few_members, member_stage, order_room}
 use Rattle.search_judge.proofs.stuck.evidence_against.Goals as goal
 
 pub order_below-order-requires-clause-few : goal.order_below-order-requires-clause-few

@@ -1,4 +1,4 @@
-use Rattle.std.proofs.Common.{◌≡◌, ◌≤◌, ◌<◌, ◌-◌, refl, get_or, length, length-set, ap, subst, ◌∙◌, arith}
+use Rattle.std.proofs.Common.{◌-◌, refl, get_or, length, length-set, ap, subst, ◌∙◌, arith}
 use Rattle.bandwidth_bound.specs.Floors.{IsRest}
 use Rattle.bandwidth_bound.proofs.FloorsItems.{are_few}
 use Rattle.bandwidth_bound.proofs.FloorsRests.{filled_more}

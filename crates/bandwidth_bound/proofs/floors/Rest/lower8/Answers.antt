@@ -5,7 +5,7 @@ use Rattle.bandwidth_bound.proofs.floors.Rest.lower8.Goals as goal
 pub kept_slack-requires : goal.kept_slack-requires
 kept_slack-requires c =
     let (problem, belongs) = c.requires in
-    (problem, belongs, ?)
+    (problem, belongs)
 
 pub overflow_mul-load : goal.overflow_mul-load
 overflow_mul-load c =
