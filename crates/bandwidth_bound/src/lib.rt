@@ -22,10 +22,10 @@ pub use covering::{
     standing_trees_hold,
 };
 pub use failing::refutes;
-pub use floors::Floors;
 pub use final_laws::{
     classes_extend, fail_set_is_final, failing_is_final, failing_sets_grow, loads_never_fall,
     refuted_is_failing,
 };
+pub use floors::Floors;
 pub use price_laws::{bound_is_below, bound_is_exact, bound_is_more, prices_are_below};
 pub use verdict::{Part, Verdict};
