@@ -92,7 +92,8 @@ fn the_bound_is_that_of_the_open_leaf(rt: HostRuntime) {
 #[test]
 fn lemmas_bound_what_senders_load(rt: HostRuntime) {
     let problem = two_signals(&rt, rt.alloc(), b"ECU2");
-    let open = b"canpack certificate 1\nkind open\nlemma 0 56000\ni 1\nb\nlemma 1 56000\ni 1\nb\nmain\no\nend\n";
+    let open =
+        b"canpack certificate 1\nkind open\nlemma 0 56000\ni 1\nb\nlemma 1 56000\ni 1\nb\nmain\no\nend\n";
     let answer = found(&rt, rt.alloc(), &problem, NO_ROWS, open);
     assert_eq!(rt;
         answer,
