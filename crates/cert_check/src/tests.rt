@@ -87,8 +87,8 @@ fn the_bound_is_that_of_the_open_leaf(rt: HostRuntime) {
     );
 }
 
-/// Each of two senders alone has one frame of 7000 ticks in the common period of 10 ms, and no less than 8 times
-/// that: so the bound at the empty grouping is twice as much, and no lemma shows an eighth more.
+/// Each of two senders alone has one frame of 7000 ticks in the common period of 10 ms: 56000 eighths. The bound
+/// at the empty grouping is twice as much, and no lemma shows an eighth more.
 #[test]
 fn lemmas_bound_what_senders_load(rt: HostRuntime) {
     let problem = two_signals(&rt, rt.alloc(), b"ECU2");
