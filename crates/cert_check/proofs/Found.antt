@@ -21,7 +21,6 @@ use Rattle.bandwidth_bound.proofs.Loads.{loads_fit}
 use Rattle.bandwidth_bound.proofs.PriceBound.{bound_is_below}
 use Rattle.bandwidth_bound.proofs.Shown.{shown_is_solvable}
 use Rattle.bandwidth_bound.proofs.Standing.{trees_hold}
-use Rattle.bandwidth_bound.proofs.StandingLemmas.{standing_lemmas_hold}
 use Rattle.cert_check.specs.declared.fault.CheckFault.{CheckFault}
 use Rattle.cert_check.specs.Accept.{IsFound, judged_of}
 use Rattle.cert_check.specs.Kinds.{is_to_be_placed}
@@ -31,9 +30,7 @@ use Rattle.cert_check.proofs.KindLaws.{no_matrix, no_timing, timing_of}
 module _ (problem : Parts) (rows : List MatrixRow) (cert : CertParts) (stands : IsProblem problem) where
   -- what the trees show
   trees : RuleHolds (judged_of problem rows cert) → TreesShow (judged_of problem rows cert)
-  trees rule =
-      trees_hold bound_is_below failing_is_final (standing_lemmas_hold bound_is_below)
-      (judged_of problem rows cert) stands rule
+  trees rule = trees_hold bound_is_below failing_is_final (judged_of problem rows cert) stands rule
 
   -- of a certificate whose matrix is to have no rows
   pub holds_without : is_to_be_placed cert.kind rows ≡ false → (answer : Result Verdict CheckFault)

@@ -1,6 +1,5 @@
 -- The values of lemmas, one after the other, and a walk over the tree of a lemma.
-use Rattle.std.proofs.Common.{◌≡◌, ◌⊎◌, inl, inr, ◌↔◌, ◌<◌, ◌≤◌, ◌+◌, ◌-◌, ◌==◌, ℕ, Bool, true, false, not, cond, IsTrue, List, [], ◌∷◌, ◌++◌, length, map, get_or, set, take, replicate, All, Some, refl, sym, ap, subst, ◌∙◌, arith, true≢false, zero-add}
-use Rattle.std.specs.List.{range_with_len}
+use Rattle.std.proofs.Common.{◌≡◌, ◌⊎◌, inl, inr, ◌↔◌, ◌<◌, ◌≤◌, ◌+◌, ◌-◌, ◌==◌, ℕ, Bool, true, false, not, cond, IsTrue, List, [], ◌∷◌, ◌++◌, length, map, get_or, set, take, replicate, All, refl, sym, ap, ◌∙◌, arith, true≢false, zero-add}
 use Rattle.std.specs.List.Sorted.{IsStrictlyIncreasing}
 use Rattle.std.proofs.lemmas.Bool.{cases_eq, cases_lt, eq-eqb, ne_eqb}
 use Rattle.std.proofs.lemmas.Grind.{get_or-set_at}
@@ -13,7 +12,7 @@ use Rattle.cert_text.specs.declared.parts.Lemma.{Lemma}
 use Rattle.cert_text.specs.PlainTree.{plain_lemma}
 use Rattle.cert_text.specs.Parts.{LemmaOf}
 use Rattle.cert_text.specs.Trees.{Plain}
-use Rattle.bandwidth_bound.specs.Lemmas.{LemmaStands, value_of, values_of}
+use Rattle.bandwidth_bound.specs.Lemmas.{value_of, values_of}
 
 -- the value of another sender's lemma
 value_other : (front : List (LemmaOf Plain)) (lemma : LemmaOf Plain) (sender : ℕ)
@@ -76,9 +75,9 @@ values_none problem =
     ext_get_or 0 (values_of problem []) (replicate (length problem.senders) 0)
     (long ∙ sym (length-replicate (length problem.senders) 0))
     (λ s inside.
-        get_or-map-range_with_len (value_of []) 0 (length problem.senders) s s 0 (omega (arith, inside, long))
-        (zero-add s)
-        ∙ sym (get_or-replicate (length problem.senders) s 0 0 (omega (arith, inside, long))))
+    get_or-map-range_with_len (value_of []) 0 (length problem.senders) s s 0 (omega (arith, inside, long))
+    (zero-add s)
+    ∙ sym (get_or-replicate (length problem.senders) s 0 0 (omega (arith, inside, long))))
   where
     long : length (values_of problem []) ≡ length problem.senders
     long = length-map-range_with_len (value_of []) 0 (length problem.senders)

@@ -1,5 +1,4 @@
-//! Certificates of two small problems.
-ghost use Rattle.std.specs.Prelude.{◌≤◌};
+//! Certificates of small problems.
 ghost use Rattle.pack_model.specs.Signal.{SignalStands};
 
 use crate::{CheckFault, check_cert};
@@ -19,32 +18,30 @@ const ONE_FRAME: &[u8] = b"id,sender,size,ticks,header,pdu,at,signal,start,bits\
     256,ECU1,2,7400,none,,0,S2,8,8\n";
 
 /// A signal of one byte every 10 ms.
-fn signal(rt: &impl Abort, alloc: Global, name: &[u8], deadline_us: u32) -> Signal
-    requires low { 1 ≤ deadline_us }
-    requires high { deadline_us ≤ 100000000 }
+fn signal(rt: &impl Abort, alloc: Global, name: &[u8], sender: &[u8]) -> Signal
     ensures { SignalStands result }
 {
     Signal {
         name: Name::new(alloc, name).expect(rt, "a name"),
-        sender: Name::new(alloc, b"ECU1").expect(rt, "a name"),
+        sender: Name::new(alloc, sender).expect(rt, "a name"),
         pdu: None,
         bits: 8,
         period_us: 10_000,
-        deadline_us,
+        deadline_us: 10_000,
         jitter_us: 0,
     }
 }
 
-/// The problem of two such signals.
-fn two_signals(rt: &impl Abort, alloc: Global) -> Problem {
+/// The problem of two such signals, the first of ECU1.
+fn two_signals(rt: &impl Abort, alloc: Global, sender: &[u8]) -> Problem {
     let network = Network {
         ticks_per_us: 80,
         nominal_ticks: 160,
         data_ticks: 40,
         first_id: 256,
     };
-    let first = signal(rt, alloc, b"S1", 10_000);
-    let second = signal(rt, alloc, b"S2", 10_000);
+    let first = signal(rt, alloc, b"S1", b"ECU1");
+    let second = signal(rt, alloc, b"S2", sender);
     let signals = Vec::from_array(alloc, [first, second]).expect(rt, "memory");
     problem_of(alloc, network, signals).expect(rt, "a problem")
 }
@@ -65,7 +62,7 @@ fn found(
 /// One frame of two bytes takes 7400 ticks, two frames of one byte 14000.
 #[test]
 fn one_frame_is_best(rt: HostRuntime) {
-    let problem = two_signals(&rt, rt.alloc());
+    let problem = two_signals(&rt, rt.alloc(), b"ECU1");
     let best = b"canpack certificate 1\nkind best\nframe 7400 0\nmain\ni 1\ni 2\nb\nb\nend\n";
     let answer = found(&rt, rt.alloc(), &problem, ONE_FRAME, best);
     assert_eq!(rt; answer, Ok(Verdict::Best { load: 7400 }));
@@ -74,17 +71,38 @@ fn one_frame_is_best(rt: HostRuntime) {
     assert_eq!(rt; answer, Err(CheckFault::RejectedTree));
 }
 
-/// Left open at one signal, of which one frame takes 7000 ticks: 8 times that is the bound without a matrix.
+/// Left open at one signal, of which one frame takes 7000 ticks; the byte of the other takes at least ten data
+/// bits more, which are 400 ticks. 8 times 7400 is the bound without a matrix.
 #[test]
 fn the_bound_is_that_of_the_open_leaf(rt: HostRuntime) {
-    let problem = two_signals(&rt, rt.alloc());
+    let problem = two_signals(&rt, rt.alloc(), b"ECU1");
     let open = b"canpack certificate 1\nkind open\nmain\ni 1\no\nend\n";
     let answer = found(&rt, rt.alloc(), &problem, NO_ROWS, open);
     assert_eq!(rt;
         answer,
         Ok(Verdict::Between {
             best: None,
-            lower: 56_000
+            lower: 59_200
         })
     );
+}
+
+/// Each of two senders alone has one frame of 7000 ticks in the common period of 10 ms: 56000 eighths. The bound
+/// at the empty grouping is twice as much, and no lemma shows an eighth more.
+#[test]
+fn lemmas_bound_what_senders_load(rt: HostRuntime) {
+    let problem = two_signals(&rt, rt.alloc(), b"ECU2");
+    let open =
+        b"canpack certificate 1\nkind open\nlemma 0 56000\ni 1\nb\nlemma 1 56000\ni 1\nb\nmain\no\nend\n";
+    let answer = found(&rt, rt.alloc(), &problem, NO_ROWS, open);
+    assert_eq!(rt;
+        answer,
+        Ok(Verdict::Between {
+            best: None,
+            lower: 112_000
+        })
+    );
+    let more = b"canpack certificate 1\nkind open\nlemma 0 56001\ni 1\nb\nmain\no\nend\n";
+    let answer = found(&rt, rt.alloc(), &problem, NO_ROWS, more);
+    assert_eq!(rt; answer, Err(CheckFault::RejectedTree));
 }

@@ -26,11 +26,11 @@ returns c =
       λ e.
           subst IsStrictlyIncreasing (sym (senders_same lemmas))
           (λ i within.
-              c.loop-k.invariant i (omega (
-                arith,
-                within,
-                c.loop-k-test.false,
-                length-map lemmas (λ (lemma : Lemma). lemma.sender),
-              ))),
+          c.loop-k.invariant i (omega (
+            arith,
+            within,
+            c.loop-k-test.false,
+            length-map lemmas (λ (lemma : Lemma). lemma.sender),
+          ))),
       λ rises. refl,
     )

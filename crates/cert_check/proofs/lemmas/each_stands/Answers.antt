@@ -1,4 +1,4 @@
-use Rattle.std.proofs.Common.{◌≡◌, ◌<◌, length, map, sym, subst, arith, true≢false, ◌∙◌}
+use Rattle.std.proofs.Common.{◌<◌, length, map, sym, subst, arith, true≢false, ◌∙◌}
 use Rattle.std.proofs.lemmas.List.{length-map}
 use Rattle.std.proofs.lemmas.List.Elements.{All-more}
 use Rattle.bandwidth_bound.specs.Lemmas.{LemmaStands}

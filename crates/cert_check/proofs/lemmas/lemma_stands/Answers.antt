@@ -16,7 +16,7 @@ returns-clause-stands c =
     (λ stays. (
       omega (arith, ap length c.senders.ensures.senders),
       tree_shown c.args.problem.now _ c.begin.new.self.values.items c.begin.new.self
-      (way_of c.args.problem.now c.take_tree.new.walk) (plain_of c.args.lemma.now.tree) c.begin.ensures.aim refl
-      c.begin.ensures.begins c.take_tree.ensures.takes
-      (sym (c.has_failed.ensures ∙ c.keep_value.ensures.failed) ∙ stays),
+          (way_of c.args.problem.now c.take_tree.new.walk) (plain_of c.args.lemma.now.tree) c.begin.ensures.aim refl
+          c.begin.ensures.begins c.take_tree.ensures.takes
+          (sym (c.has_failed.ensures ∙ c.keep_value.ensures.failed) ∙ stays),
     ))
