@@ -1,0 +1,79 @@
+-- The first best grouping.
+use Rattle.std.proofs.Common.{◌≡◌, ℕ, ◌*◌, ◌/◌, List, length, Option, Some, None, Bool, true, false, cond, nat_lt, refl, sym, ap, subst, ◌∙◌}
+use Rattle.std.specs.List.{range_with_len}
+use Rattle.pack_model.specs.Problem.{Parts}
+use Rattle.busy_period.specs.declared.timed.Timed.{Timed}
+use Rattle.response_test.specs.Order.{OrderPasses}
+use Rattle.priority_assign.specs.Lowest.{IsLowestFirst}
+use Rattle.class_frame.specs.Classes.{frames_of_classes, load_of}
+use Rattle.class_frame.specs.Legal.{IsLegal}
+use Rattle.bandwidth_bound.specs.Solvable.{Solvable}
+use Rattle.tree_search.specs.declared.finding.Found.{Found}
+use Rattle.plan_search.specs.Alone.{labels_alone}
+use Rattle.plan_search.specs.Begin.{FoundStands, IsFirst, IsFound, IsTimed, IsTimedIf, Turns, better_of, grouping_by_sender}
+
+-- a legal grouping in an order in which each of its frames passes
+pub found-timed : (problem : Parts) (labels order : List ℕ) (frames : List Timed) (bit load : ℕ)
+    → IsLegal problem.items labels → frames ≡ frames_of_classes problem problem.items labels
+    → bit ≡ problem.network.nominal_ticks → IsLowestFirst frames bit 0 order → OrderPasses frames bit order
+    → load ≡ load_of problem problem.items labels
+    → IsTimed problem labels (Some (record { labels = labels; order = order; load = load }))
+found-timed problem labels order frames bit load legal are time lowest passes load_is =
+    let passing : OrderPasses (frames_of_classes problem problem.items labels) problem.network.nominal_ticks order =
+    subst (λ b. OrderPasses (frames_of_classes problem problem.items labels) b order) time
+    (subst (λ fs. OrderPasses fs bit order) are passes) in
+    let first : IsLowestFirst (frames_of_classes problem problem.items labels) problem.network.nominal_ticks 0
+    order = subst (λ b. IsLowestFirst (frames_of_classes problem problem.items labels) b 0 order) time
+    (subst (λ fs. IsLowestFirst fs bit 0 order) are lowest) in (
+      record { legal = legal; order = order; passes = passing },
+      record { labels_are = refl; lowest_first = first; passes = passing; load_is = load_is },
+    )
+
+-- what is found stands
+timed-stands : (problem : Parts) (labels : List ℕ) (found : Found) → IsTimed problem labels (Some found)
+    → FoundStands problem found
+timed-stands problem labels found it =
+    let same = sym it.1.labels_are in
+    record {
+      legal = subst (IsLegal problem.items) same it.0.legal;
+      lowest_first =
+          subst (λ l. IsLowestFirst (frames_of_classes problem problem.items l) problem.network.nominal_ticks 0
+          found.order) same it.1.lowest_first;
+      passes = subst (λ l. OrderPasses (frames_of_classes problem problem.items l) problem.network.nominal_ticks
+          found.order) same it.1.passes;
+      load_is = it.1.load_is ∙ ap (load_of problem problem.items) same;
+    }
+
+-- what stands, if it is there
+abbrev StandsIf : Parts → Option Found → Type 0
+StandsIf problem None = Unit {0}
+StandsIf problem (Some found) = FoundStands problem found
+
+timed-if : (problem : Parts) (labels : List ℕ) (found : Option Found) → IsTimed problem labels found
+    → StandsIf problem found
+timed-if problem labels None it = tt
+timed-if problem labels (Some found) it = timed-stands problem labels found it
+
+together-if : (problem : Parts) (labels : Option (List ℕ)) (found : Option Found) → IsTimedIf problem labels found
+    → StandsIf problem found
+together-if problem None found it = subst (StandsIf problem) (sym it) tt
+together-if problem (Some labels) found it = timed-if problem labels found it
+
+better-if : (problem : Parts) (one other : Option Found) → StandsIf problem one → StandsIf problem other
+    → StandsIf problem (better_of one other)
+better-if problem None other a b = b
+better-if problem (Some one) None a b = a
+better-if problem (Some one) (Some other) a b = by (nat_lt other.load one.load)
+  where
+    by : (c : Bool) → StandsIf problem (cond c (Some other) (Some one))
+    by true = b
+    by false = a
+
+-- the first best stands
+pub first-stands : (problem : Parts) (turns : Turns) (first : Option Found) → IsFirst problem turns first
+    → (found : Found) → first ≡ Some found → FoundStands problem found
+first-stands problem turns first it found is =
+    subst (StandsIf problem) (sym it.first_is ∙ is)
+    (better-if problem it.together it.alone
+    (together-if problem (grouping_by_sender problem turns) it.together it.together_is)
+    (timed-if problem (labels_alone problem) it.alone it.alone_is))
