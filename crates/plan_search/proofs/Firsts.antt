@@ -1,16 +1,32 @@
 -- The first best grouping.
-use Rattle.std.proofs.Common.{◌≡◌, ℕ, ◌*◌, ◌/◌, List, length, Option, Some, None, Bool, true, false, cond, nat_lt, refl, sym, ap, subst, ◌∙◌}
+use Rattle.std.proofs.Common.{◌≡◌, ℕ, ◌+◌, ◌*◌, ◌/◌, List, [], ◌∷◌, length, map, sum_by, Option, Some, None, IfSome, Bool, true, false, cond, nat_lt, refl, sym, ap, subst, ◌∙◌}
 use Rattle.std.specs.List.{range_with_len}
+use Rattle.std.proofs.lemmas.List.Sums.{sum_by-cons}
 use Rattle.pack_model.specs.Problem.{Parts}
 use Rattle.busy_period.specs.declared.timed.Timed.{Timed}
 use Rattle.response_test.specs.Order.{OrderPasses}
 use Rattle.priority_assign.specs.Lowest.{IsLowestFirst}
 use Rattle.class_frame.specs.Classes.{frames_of_classes, load_of}
+use Rattle.class_frame.specs.Frame.{load_of_items, timed_of_items}
+use Rattle.class_frame.specs.Grouping.{class_of, classes_of}
 use Rattle.class_frame.specs.Legal.{IsLegal}
 use Rattle.bandwidth_bound.specs.Solvable.{Solvable}
 use Rattle.tree_search.specs.declared.finding.Found.{Found}
 use Rattle.plan_search.specs.Alone.{labels_alone}
 use Rattle.plan_search.specs.Begin.{FoundStands, IsFirst, IsFound, IsTimed, IsTimedIf, Turns, better_of, grouping_by_sender}
+
+-- the load of a grouping is that of its classes as frames
+pub loads-sum : (problem : Parts) (labels ls : List ℕ)
+    → sum_by (λ (frame : Timed). frame.ticks * (problem.hyper / frame.period))
+    (map (λ label. timed_of_items problem (class_of label labels problem.items)) ls)
+    ≡ sum_by (λ label. load_of_items problem (class_of label labels problem.items)) ls
+loads-sum problem labels [] = refl
+loads-sum problem labels (l ∷ ls) =
+    let frame : ℕ → Timed = λ label. timed_of_items problem (class_of label labels problem.items) in
+    let ticks : Timed → ℕ = λ one. one.ticks * (problem.hyper / one.period) in
+    let load : ℕ → ℕ = λ label. load_of_items problem (class_of label labels problem.items) in
+    sum_by-cons ticks (frame l) (map frame ls) ∙ ap (λ n. load l + n) (loads-sum problem labels ls)
+    ∙ sym (sum_by-cons load l ls)
 
 -- a legal grouping in an order in which each of its frames passes
 pub found-timed : (problem : Parts) (labels order : List ℕ) (frames : List Timed) (bit load : ℕ)
@@ -69,11 +85,16 @@ better-if problem (Some one) (Some other) a b = by (nat_lt other.load one.load)
     by true = b
     by false = a
 
+to-if : (problem : Parts) (first : Option Found) → StandsIf problem first → IfSome first (FoundStands problem)
+to-if problem None h = tt
+to-if problem (Some found) h = h
+
 -- the first best stands
 pub first-stands : (problem : Parts) (turns : Turns) (first : Option Found) → IsFirst problem turns first
-    → (found : Found) → first ≡ Some found → FoundStands problem found
-first-stands problem turns first it found is =
-    subst (StandsIf problem) (sym it.first_is ∙ is)
+    → IfSome first (FoundStands problem)
+first-stands problem turns first it =
+    to-if problem first
+    (subst (StandsIf problem) (sym it.first_is)
     (better-if problem it.together it.alone
     (together-if problem (grouping_by_sender problem turns) it.together it.together_is)
-    (timed-if problem (labels_alone problem) it.alone it.alone_is))
+    (timed-if problem (labels_alone problem) it.alone it.alone_is)))

@@ -10,3 +10,5 @@ pub mod Counting
 pub mod Spends
 pub mod TurnSteps
 pub mod Firsts
+pub mod LemmaValues
+pub mod Beginnings

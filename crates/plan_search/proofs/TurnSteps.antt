@@ -21,6 +21,14 @@ count-is problem n = by (has_turns problem)
     by true lt = refl
     by false lt = absurd (omega arith)
 
+-- no more senders have a turn than there are
+pub count-le : (problem : Parts) → turn_count problem ≤ length problem.senders
+count-le problem = by (has_turns problem)
+  where
+    by : (b : Bool) → cond b (length problem.senders) 0 ≤ length problem.senders
+    by true = omega arith
+    by false = omega arith
+
 -- the tree that a search within its share gives has no more nodes
 pub turn-fits : (problem : Parts) (stands : IsProblem problem) (n share : ℕ) (given : Option Ended) (one : Ended)
     → IsSpent problem n share given → given ≡ Some one → nodes_of (plain_of one.lemma.tree) ≤ share
@@ -62,7 +70,8 @@ module _ (problem : Parts) (branches n : ℕ) (before after : Turns) where
       → IsSpent problem n share given → share ≡ share_of before.left (length problem.senders - n)
       → Took given before after → AreTurns problem branches (n + 1) after
   turn-more share given are spent same took =
-      subst (λ m. AreTurns problem branches m after) (omega arith)
+      let more : suc n ≡ n + 1 = omega arith in
+      subst (λ m. AreTurns problem branches m after) more
       (let turn : AreTurns problem branches (suc n) after = (
         before,
         are,

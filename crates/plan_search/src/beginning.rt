@@ -33,7 +33,8 @@ fn lemma_values(alloc: Global, problem: &Problem, lemmas: &[Lemma]) -> Result<Va
     ensures { IfOk result (λ values. values ≡ values_of problem.now (map plain_lemma lemmas.now)) }
 {
     let mut values = vec![in alloc; 0u128; problem.senders().len()]?;
-    for lemma in lemmas.iter().rev() {
+    for k in 0..lemmas.len() {
+        let lemma = &lemmas[lemmas.len() - 1 - k];
         values[lemma.sender as usize] = lemma.value;
     }
     Ok(Values::of(values))

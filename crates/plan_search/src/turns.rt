@@ -93,7 +93,9 @@ fn turn_count(problem: &Problem) -> u32
 
 /// The turns of senders within so many branches, one search at a time. The only error is want of memory.
 pub(crate) fn take_turns(alloc: Global, problem: &Problem, branches: u64) -> Result<Taken, Memory>
-    ensures { IfOk result (λ taken. AreTurns problem.now branches (turn_count_of problem.now) (turns_of taken)) }
+    ensures turns { IfOk result (λ taken. AreTurns problem.now branches (turn_count_of problem.now)
+        (turns_of taken)) }
+    ensures problem { IfOk result (λ taken. IsProblem problem.now) }
 {
     let mut taken = Taken {
         left: branches,
