@@ -1,6 +1,6 @@
 //! The first best grouping.
 ghost use Rattle.std.specs.Prelude.{◌≡◌, ◌+◌, ◌≤◌, ◌<◌, ℕ, length, slice_index_or, [], IfOk};
-ghost use Rattle.pack_model.specs.Problem.{sent_by};
+ghost use Rattle.pack_model.specs.Problem.{IsSorted, sent_by};
 ghost use Rattle.class_frame.specs.Legal.{IsLegal};
 ghost use Rattle.plan_search.specs.Alone.{labels_alone};
 ghost use Rattle.plan_search.specs.Begin.{IsFirst, IsTimed, IsTimedIf, Turns, better_of, grouping_of_all};
@@ -49,7 +49,8 @@ fn better(one: Option<Found>, other: Option<Found>) -> Option<Found>
 
 /// Each item alone, with its order, exactly where some order lets each frame pass. The only error is want of memory.
 fn timed_alone(alloc: Global, problem: &Problem) -> Result<Option<Found>, Memory>
-    ensures { IfOk result (IsTimed problem.now (labels_alone problem.now)) }
+    ensures timed { IfOk result (IsTimed problem.now (labels_alone problem.now)) }
+    ensures sorted { IfOk result (λ found. IsSorted problem.now.signals problem.now.items) }
 {
     let labels = numbers_below(alloc, problem.items().len() as u32)?;
     Ok(timed(alloc, problem, labels)?)
@@ -83,8 +84,9 @@ pub(crate) fn first_best(
 ) -> Result<Option<Found>, Memory>
     requires { length groupings.now ≡ length problem.now.senders → (sender : ℕ) → sender < length problem.now.senders
         → IsLegal (sent_by problem.now.items sender) (slice_index_or groupings.now sender []) }
-    ensures { IfOk result (λ first. (turns : Turns) → turns.groupings ≡ groupings.now
+    ensures first { IfOk result (λ first. (turns : Turns) → turns.groupings ≡ groupings.now
         → IsFirst problem.now turns first) }
+    ensures sorted { IfOk result (λ first. IsSorted problem.now.signals problem.now.items) }
 {
     let together = timed_together(alloc, problem, groupings)?;
     let alone = timed_alone(alloc, problem)?;
