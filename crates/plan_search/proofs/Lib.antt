@@ -3,3 +3,12 @@ pub mod LeastLines
 pub mod OnePlan
 pub mod Orders
 pub mod Pushed
+pub mod BySender
+pub mod Sought
+pub mod TurnLaws
+pub mod Counting
+pub mod Spends
+pub mod TurnSteps
+pub mod Firsts
+pub mod LemmaValues
+pub mod Beginnings

@@ -22,7 +22,7 @@ use Rattle.plan_search.specs.declared.planned.Planned.{Planned}
 use Rattle.plan_search.specs.declared.planned.Planned.TheVariants as planned
 use Rattle.plan_search.specs.Begin.{Begins}
 use Rattle.plan_search.specs.Lines.{AreLeastLines}
-use Rattle.plan_search.specs.Searches.{IsSearch, IsTrimmedIn, branches_of, nodes_of_cert, trimmed}
+use Rattle.plan_search.specs.Searches.{IsSearch, IsTrimmedIn, LemmaIsTrimmed, branches_of, nodes_of_cert, trimmed}
 
 -- ---- the answer
 
@@ -119,10 +119,6 @@ judged_plan problem plan =
     record { problem = problem; matrix = matrix_of_plan plan; cert = cert_of_plan plan }
 
 -- ---- what is promised of it
-
--- no inner node of the tree of a lemma has a bound that reaches its value
-abbrev pub LemmaIsTrimmed : Parts → LemmaOf Plain → Type 0
-LemmaIsTrimmed problem lemma = IsTrimmedIn problem (Some lemma.sender) [] lemma.value lemma.tree
 
 -- no inner node of the main tree has a bound that reaches 8 times a load
 abbrev pub MainIsTrimmed : Parts → List ℕ → ℕ → Option Plain → Type 0

@@ -6,12 +6,18 @@
 #![tactic(auto)]
 
 mod alone;
+mod beginning;
+mod count;
+mod first;
 mod laws;
 mod lines;
 mod plan;
 mod planned;
+mod together;
+mod turns;
 
 pub use alone::{Alone, load_alone, plan_alone};
+pub use beginning::{Begun, begin};
 pub use laws::{plan_alone_is_one, plan_is_one};
 pub use plan::plan;
 pub use planned::Planned;
