@@ -1,5 +1,9 @@
 pub mod Accepted
+pub mod Ended
+pub mod Founds
 pub mod LeastLines
 pub mod OnePlan
 pub mod Orders
 pub mod Pushed
+pub mod Searching
+pub mod TreeFits

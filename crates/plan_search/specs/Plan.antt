@@ -20,7 +20,7 @@ use Rattle.tree_search.specs.Open.{has_open}
 use Rattle.tree_search.specs.Step.{Searched}
 use Rattle.plan_search.specs.declared.planned.Planned.{Planned}
 use Rattle.plan_search.specs.declared.planned.Planned.TheVariants as planned
-use Rattle.plan_search.specs.Begin.{Begins}
+use Rattle.plan_search.specs.Begin.{Begins, IsTimed}
 use Rattle.plan_search.specs.Lines.{AreLeastLines}
 use Rattle.plan_search.specs.Searches.{IsSearch, IsTrimmedIn, branches_of, nodes_of_cert, trimmed}
 
@@ -67,6 +67,11 @@ Ends problem lemmas best tree (planned.Spent (Some rows) cert) =
     (has_open tree ≡ true) × ((found : Found) × (best ≡ Some found)
     × IsShownBy problem found rows cert.frames
     × (cert ≡ open_cert cert.frames lemmas tree))
+
+-- what was found stands: a legal grouping that can meet all deadlines, with the order of lowest-priority-first
+-- assignment and its load
+abbrev pub FoundStands : Parts → Found → Type 0
+FoundStands problem found = IsTimed problem found.labels (Some found)
 
 -- the load of a grouping that may not be there
 abbrev pub load_found : Option Found → Option ℕ

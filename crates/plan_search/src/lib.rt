@@ -6,12 +6,17 @@
 #![tactic(auto)]
 
 mod alone;
+mod begin;
+mod ending;
+mod finish;
 mod laws;
 mod lines;
-mod plan;
 mod planned;
+mod planning;
+mod searching;
+mod shown;
 
 pub use alone::{Alone, load_alone, plan_alone};
 pub use laws::{plan_alone_is_one, plan_is_one};
-pub use plan::plan;
 pub use planned::Planned;
+pub use planning::plan;
