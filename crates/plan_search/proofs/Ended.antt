@@ -3,7 +3,6 @@ use Rattle.std.proofs.Common.{◌≡◌, ℕ, zero, ◌*◌, ◌+◌, ◌≤◌,
 use Rattle.std.proofs.lemmas.List.Elements.{All-nil}
 use Rattle.pack_model.specs.Problem.{Parts, IsProblem, IsSorted}
 use Rattle.pack_model.proofs.Laws.{tests}
-use Rattle.pack_model.proofs.Numbering.{few_senders}
 use Rattle.response_test.specs.declared.evidence.Evidence.{Evidence}
 use Rattle.class_frame.specs.Classes.{load_of}
 use Rattle.matrix_rows.specs.declared.matrix.MatrixRow.{MatrixRow}
@@ -31,6 +30,7 @@ use Rattle.plan_search.specs.declared.planned.Planned.{Planned}
 use Rattle.plan_search.specs.declared.planned.Planned.TheVariants as planned
 use Rattle.plan_search.specs.Plan.{Ends, FoundStands, IsShownBy, IsTrimmedPlan, LemmaIsTrimmed, MainIsTrimmed, best_cert, cert_of_plan, judged_plan, load_found, none_cert, open_cert, verdict_of_plan}
 use Rattle.plan_search.specs.Searches.{IsTrimmedIn, trimmed}
+use Rattle.plan_search.proofs.FewSenders.{senders_few}
 use Rattle.plan_search.proofs.Founds.{best, grouping, lines_have_room, placed, timing}
 use Rattle.plan_search.proofs.TreeFits.{standing_fits}
 
@@ -103,7 +103,10 @@ module _ (problem : Parts) (stands : IsProblem problem) (sorted : IsSorted probl
   lemmas_fit k d inside =
       let lemma : LemmaOf Plain = get_or lemmas k d in
       let it : LemmaStands problem lemma = lemmas_stand.each k d inside in
-      (?, standing_fits problem stands (Some lemma.sender) [] (Some lemma.value) false lemma.tree it.1)
+      (
+        omega (arith, it.0, senders_few problem stands sorted, (tests problem stands).few_items),
+        standing_fits problem stands (Some lemma.sender) [] (Some lemma.value) false lemma.tree it.1,
+      )
 
   -- and so does the tree
   tree_fits : (best : Option ℕ) → StandsWith best → MainFits (Some tree)

@@ -18,7 +18,7 @@ use Rattle.class_frame.specs.Frame.{timed_of_items}
 use Rattle.class_frame.specs.Grouping.{class_of, classes_of, IsOrder}
 use Rattle.class_frame.specs.Legal.{IsLegal}
 use Rattle.class_frame.proofs.ClassFrames.{count_frames, stage}
-use Rattle.class_frame.proofs.GroupingLaws.{front_of}
+use Rattle.class_frame.proofs.GroupingLaws.{classes_of-le-length, front_of, length-order}
 use Rattle.class_frame.proofs.Ranges.{frame_in_range}
 use Rattle.class_frame.proofs.Used.{class_has_signal}
 use Rattle.grouping_tree.proofs.Steps.{element}
@@ -77,6 +77,39 @@ pub best_is : (problem : Parts) (rows : List MatrixRow) → IsProblem problem �
 best_is problem [] stands placed = absurd (no_rows problem stands placed)
 best_is problem (row ∷ rows) stands placed = refl
 
+module _ (problem : Parts) (labels order : List ℕ)
+    (lowest : IsLowestFirst (frames_at problem labels) problem.network.nominal_ticks 0 order) where
+  -- the order of lowest-priority-first assignment is one of the classes
+  pub is_order : IsOrder labels order
+  is_order =
+      let n : ℕ = classes_of labels in
+      let it : IsOrder (range_with_len 0 n) order = order_of_frames n (frames_at problem labels) order
+      (count_frames problem labels (frames_at problem labels) refl) lowest.fills.names_each_once in
+      record {
+        once = λ label low. it.once label (omega (arith, low, classes_of-range n));
+        only = λ k d lt. omega (arith, it.only k d lt, classes_of-range n);
+      }
+
+  -- it names as many as there are classes
+  pub order_count : length order ≡ classes_of labels
+  order_count = length-order labels order is_order
+
+  -- at most 128
+  pub order_few : IsProblem problem → IsLegal problem.items labels → length order ≤ 128
+  order_few stands legal = omega (
+    arith,
+    order_count,
+    classes_of-le-length problem.items labels legal.grouping,
+    (tests problem stands).few_items,
+  )
+
+  -- it passes where the frames are in range
+  pub passes_in_range : IsProblem problem → All IsInRange (frames_at problem labels)
+      → OrderPasses (frames_at problem labels) problem.network.nominal_ticks order
+  passes_in_range stands in_range =
+      all_filled_passes (frames_at problem labels) problem.network.nominal_ticks order
+      (record { in_range = in_range; some_bit = stands.network.nominal_low }) lowest.fills
+
 module _ (problem : Parts) (stands : IsProblem problem) (sorted : IsSorted problem.signals problem.items)
     (labels : List ℕ) (legal : IsLegal problem.items labels) where
   -- the frames of a legal grouping are in range
@@ -96,37 +129,27 @@ module _ (problem : Parts) (stands : IsProblem problem) (sorted : IsSorted probl
       (lowest : IsLowestFirst (frames_at problem labels) problem.network.nominal_ticks 0 order) where
     -- the order of lowest-priority-first assignment passes
     pub order_passes : OrderPasses (frames_at problem labels) problem.network.nominal_ticks order
-    order_passes =
-        all_filled_passes (frames_at problem labels) problem.network.nominal_ticks order
-        (record { in_range = frames_in_range; some_bit = stands.network.nominal_low }) lowest.fills
-
-    -- it is one of the classes
-    pub is_order : IsOrder labels order
-    is_order =
-        let n : ℕ = classes_of labels in
-        let it : IsOrder (range_with_len 0 n) order = order_of_frames n (frames_at problem labels) order
-        (count_frames problem labels (frames_at problem labels) refl) order_passes.names_each_once in
-        record {
-          once = λ label low. it.once label (omega (arith, low, classes_of-range n));
-          only = λ k d lt. omega (arith, it.only k d lt, classes_of-range n);
-        }
+    order_passes = passes_in_range problem labels order lowest stands frames_in_range
 
     -- and a stage at each place
     pub stage_at : (place : ℕ) → place < length order → IsStage (frames_at problem labels) order place
     stage_at place inside =
         stage problem labels order (frames_at problem labels) stands (front_of problem.items labels legal.grouping)
-        is_order refl frames_in_range place inside
+        (is_order problem labels order lowest) refl frames_in_range place inside
 
     module _ (rows : List MatrixRow) (is : rows ≡ rows_of problem labels order) where
       -- the matrix is placed, with this grouping and this order
       pub placed : Placed problem rows
-      placed = subst (Placed problem) (sym is) (placed_laid problem labels order stands sorted legal is_order)
+      placed = subst (Placed problem) (sym is) (placed_laid problem labels order stands sorted legal
+          (is_order problem labels order lowest))
 
       pub grouping : grouping_of problem rows ≡ labels
-      grouping = ap (grouping_of problem) is ∙ laid_grouping problem labels order stands sorted legal is_order
+      grouping = ap (grouping_of problem) is ∙ laid_grouping problem labels order stands sorted legal
+          (is_order problem labels order lowest)
 
       pub named : order_of problem rows ≡ order
-      named = ap (order_of problem) is ∙ laid_order problem labels order stands sorted legal is_order
+      named = ap (order_of problem) is ∙ laid_order problem labels order stands sorted legal
+          (is_order problem labels order lowest)
 
       -- its load is that of the grouping
       pub best : best_of problem rows ≡ Some (load_of problem problem.items labels)

@@ -1,9 +1,14 @@
 pub mod Accepted
 pub mod Ended
+pub mod FewSenders
 pub mod Founds
 pub mod LeastLines
 pub mod OnePlan
+pub mod OpenFlat
 pub mod Orders
+pub mod Plans
 pub mod Pushed
-pub mod Searching
+pub mod SearchEnds
+pub mod SearchLaws
 pub mod TreeFits
+pub mod Within

@@ -22,7 +22,7 @@ use Rattle.plan_search.specs.Searches.{IsSearch, trimmed}
 
 -- the tree that is written: trimmed, where no leaf is open and there is a best load
 abbrev pub final_tree : Parts → List ℕ → Option ℕ → Bool → Plain → Plain
-final_tree problem values None open tree = tree
+final_tree problem values None is_open tree = tree
 final_tree problem values (Some load) true tree = tree
 final_tree problem values (Some load) false tree = trimmed problem None values (8 * load) tree
 

@@ -1,5 +1,5 @@
 //! The end of a plan whose main tree is given.
-ghost use Rattle.std.specs.Prelude.{◌≡◌, ◌*◌, ◌^◌, ◌<◌, ◌×◌, [], ℕ, List, All, IfOk, IfSome, length, map};
+ghost use Rattle.std.specs.Prelude.{◌≡◌, ◌*◌, ◌^◌, ◌<◌, [], ℕ, List, All, IfOk, IfSome, length, map};
 ghost use Rattle.std.specs.List.{list_any};
 ghost use Rattle.cert_text.specs.PlainTree.{plain_lemma, plain_of};
 ghost use Rattle.cert_text.specs.Trees.{Plain};

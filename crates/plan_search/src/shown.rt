@@ -22,8 +22,8 @@ pub(crate) fn shown_by(
 {
     let labels = found.labels.as_slice();
     let order = found.order.as_slice();
-    let frames = class_frames(alloc, problem, labels, order.len() as u32)?;
     let bit = u64::from(problem.network().nominal_ticks);
+    let frames = class_frames(alloc, problem, labels, order.len() as u32)?;
     let lines = least_lines(alloc, &frames, order, bit)?;
     let matrix = matrix_of(alloc, problem, labels, order)?;
     Ok((matrix, lines))
