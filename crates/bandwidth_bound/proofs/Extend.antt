@@ -1,7 +1,7 @@
 -- As items are put, classes only extend: each is a harder frame, and no load falls.
 use Rattle.std.proofs.Common.{◌≡◌, ℕ, zero, suc, ◌+◌, ◌*◌, ◌/◌, ◌<◌, ◌≤◌, inl, inr, true, List, [], ◌∷◌, ◌++◌, length, drop, get_or, sum_by, All, Contains, sym, ap, subst, ◌∙◌, arith}
 use Rattle.std.specs.List.{range_with_len}
-use Rattle.std.proofs.Math.Nat.{mul-le-mul, mul-le-mul_left}
+use Rattle.std.proofs.Math.Nat.{mul-le-mul}
 use Rattle.std.proofs.lemmas.Bool.{cases_lt}
 use Rattle.std.proofs.lemmas.List.Elements.{All-contains, All-weaker}
 use Rattle.std.proofs.lemmas.List.FromFn.{get_or-map-range_with_len, length-map-range_with_len}
@@ -18,15 +18,14 @@ use Rattle.class_frame.specs.Classes.{frames_of_classes, load_of}
 use Rattle.class_frame.specs.Frame.{bytes_of_items, timed_of_items, load_of_items}
 use Rattle.class_frame.specs.Grouping.{AreFirstLabels, class_of, classes_of}
 use Rattle.class_frame.specs.Laws.{HasSignal}
-use Rattle.class_frame.specs.Legal.{IsLegal}
 use Rattle.class_frame.proofs.Harder.{more_is_harder}
 use Rattle.class_frame.proofs.Ranges.{frame_in_range}
 use Rattle.class_frame.proofs.Used.{front_has_signal}
 use Rattle.grouping_tree.specs.Partial.{IsPartial, begins}
 use Rattle.grouping_tree.proofs.Classes.{class-append}
-use Rattle.grouping_tree.proofs.Fronts.{begins-is, legal-partial}
-use Rattle.bandwidth_bound.specs.Bounds.{lower8_of}
+use Rattle.grouping_tree.proofs.Fronts.{begins-is}
 use Rattle.bandwidth_bound.specs.Laws.{AreOf}
+use Rattle.bandwidth_bound.proofs.PriceSplits.{classes-append}
 
 -- with more labels a class has its items and those of the further labels
 pub classes_extend : (items : List Item) (p q : List ℕ) → begins p q ≡ true
@@ -36,13 +35,10 @@ classes_extend items p q e label = (
   ap (λ t. class_of label t items) (begins-is p q e) ∙ class-append label p (drop (length p) q) items,
 )
 
-classes_of-front : (p r : List ℕ) → classes_of p ≤ classes_of (p ++ r)
-classes_of-front [] r = omega arith
-classes_of-front (label ∷ p) r = omega (arith, classes_of-front p r)
-
 -- and there are no fewer classes
 pub classes_stay : (p q : List ℕ) → begins p q ≡ true → classes_of p ≤ classes_of q
-classes_stay p q e = omega (arith, classes_of-front p (drop (length p) q), ap classes_of (begins-is p q e))
+classes_stay p q e =
+    omega (arith, classes-append p (drop (length p) q), ap classes_of (begins-is p q e))
 
 -- items of a problem have signals
 pub are_items : (problem : Parts) → IsProblem problem → (items : List Item) → AreOf problem items
@@ -147,10 +143,3 @@ loads_never_fall problem stands items of p q partial further e =
     (λ label. load_of_items problem (class_of label q items))
     0 (classes_of p) (classes_of q) (classes_stay p q e)
     (λ label low. load-class problem stands items of p q partial further e label (omega arith))
-
--- and so the bound is at most 8 times the load of each legal grouping that extends it
-pub bound_is_below : (problem : Parts) → IsProblem problem → (items : List Item) → AreOf problem items
-    → (p q : List ℕ) → IsPartial items p → IsLegal items q → begins p q ≡ true
-    → lower8_of problem items p ≤ 8 * load_of problem items q
-bound_is_below problem stands items of p q partial legal e =
-    mul-le-mul_left 8 (loads_never_fall problem stands items of p q partial (legal-partial items q legal) e)

@@ -1,6 +1,6 @@
 -- The legal groupings that don't reach the best extend fail leaves.
 use Rattle.std.proofs.Common.{◌≡◌, ℕ, ◌*◌, ◌<◌, ◌≤◌, true, false, List, [], ◌∷◌, ◌++◌, All, Any, Contains, Option, None, Some, true≢false, refl, sym, subst, ◌∙◌, arith}
-use Rattle.std.proofs.lemmas.List.Elements.{All-append, All-cons, All-contains, All-contains_itself, All-nil}
+use Rattle.std.proofs.lemmas.List.Elements.{All-append, All-cons, All-contains, All-nil}
 use Rattle.std.proofs.lemmas.List.Folds.{Any-from_list_any}
 use Rattle.response_test.specs.declared.evidence.Evidence.{Evidence}
 use Rattle.pack_model.specs.Problem.{Parts, IsProblem}
@@ -15,8 +15,10 @@ use Rattle.cert_text.specs.declared.parts.Kind.{Kind}
 use Rattle.cert_text.specs.declared.parts.Kind.TheVariants.{KindBest, KindNoSolution}
 use Rattle.bandwidth_bound.specs.Bounds.{Reaches}
 use Rattle.bandwidth_bound.specs.Covering.{ExtendsFailLeaf, FailLeavesRefuse, ReachesBest}
-use Rattle.bandwidth_bound.specs.Laws.{BoundIsBelow}
-use Rattle.bandwidth_bound.specs.Rule.{Judged, MainStands, MatrixOfKind, RuleHolds, TreeOfKind, best_of, main_goal}
+use Rattle.bandwidth_bound.specs.Goals.{main_goal}
+use Rattle.bandwidth_bound.specs.Lemmas.{LemmasHold, StandingLemmasHold, values_of}
+use Rattle.bandwidth_bound.specs.PriceLaws.{BoundIsBelow}
+use Rattle.bandwidth_bound.specs.Rule.{Judged, MainStands, MatrixOfKind, RuleHolds, TreeOfKind, TreesStand, best_of}
 use Rattle.bandwidth_bound.specs.Trees.{EachStands, Goal, Leaf, TreeStands, leaves, leaves_each}
 use Rattle.bandwidth_bound.proofs.Covers.{covers}
 use Rattle.bandwidth_bound.proofs.TreeClaims.{reaches-more, some_counted}
@@ -93,16 +95,16 @@ module _ (goal : Goal) (closed : goal.may_leave ≡ false) (q : List ℕ) (legal
 
 -- ---- the certificate
 
-module _ (below : BoundIsBelow) (problem : Parts) (stands : IsProblem problem) where
+module _ (below : BoundIsBelow) (problem : Parts) (stands : IsProblem problem) (values : List ℕ)
+    (hold : LemmasHold problem values) where
   -- a legal grouping that doesn't reach the best extends a fail leaf of the main tree
-  main_leaf : (best : Option ℕ) (tree : Option Plain) → MainStands problem best false tree → (q : List ℕ)
+  main_leaf : (best : Option ℕ) (tree : Option Plain) → MainStands problem values best false tree → (q : List ℕ)
       → IsLegal problem.items q → ¬ ReachesBest problem best q → ExtendsFailLeaf problem tree q
   main_leaf best None h q legal short = absurd h
   main_leaf best (Some tree) h q legal short =
-      let leaf = fail_leaf (main_goal problem best false) refl q legal (load_of problem problem.items q)
-      (λ p partial e.
-      below problem stands problem.items (All-contains_itself problem.items) p q partial legal e)
-      short [] tree h refl in
+      let leaf =
+      fail_leaf (main_goal problem values best false) refl q legal (load_of problem problem.items q)
+      (λ p partial e. below problem stands None values hold p q partial legal e) short [] tree h refl in
       record {
         place = leaf.place;
         named = leaf.named;
@@ -112,7 +114,7 @@ module _ (below : BoundIsBelow) (problem : Parts) (stands : IsProblem problem) w
       }
 
   smaller : (rows : List MatrixRow) (tree : Option Plain)
-      → MainStands problem (best_of problem rows) false tree
+      → MainStands problem values (best_of problem rows) false tree
       → (q : List ℕ) → IsLegal problem.items q
       → load_of problem problem.items q < load_of problem problem.items (grouping_of problem rows)
       → ExtendsFailLeaf problem tree q
@@ -124,23 +126,33 @@ module _ (below : BoundIsBelow) (problem : Parts) (stands : IsProblem problem) w
       omega arith)
 
   each : (rows : List MatrixRow) (tree : Option Plain) → rows ≡ []
-      → MainStands problem (best_of problem rows) false tree → (q : List ℕ) → IsLegal problem.items q
+      → MainStands problem values (best_of problem rows) false tree → (q : List ℕ) → IsLegal problem.items q
       → ExtendsFailLeaf problem tree q
   each rows tree empty h q legal =
-      main_leaf None tree (subst (λ rows. MainStands problem (best_of problem rows) false tree) empty h) q
+      main_leaf None tree (subst (λ rows. MainStands problem values (best_of problem rows) false tree) empty h) q
       legal (λ reached. reached)
 
-pub fail_leaves_hold : BoundIsBelow → (judged : Judged) → IsProblem judged.problem → RuleHolds judged
-    → FailLeavesRefuse judged
-fail_leaves_hold below judged stands rule = record {
-  best = λ is q legal less.
-      smaller below judged.problem stands judged.matrix judged.cert.main_tree (of_kind KindBest is).1 q legal
-      less;
-  no_solution = λ is q legal. each below judged.problem stands judged.matrix judged.cert.main_tree
-      (subst (λ kind. MatrixOfKind kind judged.problem judged.matrix) is rule.matrix)
-      (of_kind KindNoSolution is).1 q legal;
-}
-  where
-    of_kind : (kind : Kind) → judged.cert.kind ≡ kind
-        → TreeOfKind kind judged.problem judged.matrix judged.cert
-    of_kind kind is = subst (λ kind. TreeOfKind kind judged.problem judged.matrix judged.cert) is rule.tree
+module _ (below : BoundIsBelow) (lemmas_hold : StandingLemmasHold) (judged : Judged)
+    (stands : IsProblem judged.problem) where
+  -- the values of its lemmas hold
+  values_hold : TreesStand judged.problem (best_of judged.problem judged.matrix) false judged.cert
+      → LemmasHold judged.problem (values_of judged.problem judged.cert.lemmas)
+  values_hold trees = lemmas_hold judged.problem stands judged.cert.lemmas trees.lemmas
+
+  pub fail_leaves_hold : RuleHolds judged → FailLeavesRefuse judged
+  fail_leaves_hold rule = record {
+    best = λ is q legal less.
+        let trees = of_kind KindBest is in
+        smaller below judged.problem stands (values_of judged.problem judged.cert.lemmas) (values_hold trees)
+        judged.matrix judged.cert.main_tree trees.main q legal less;
+    no_solution = λ is q legal.
+        let trees = of_kind KindNoSolution is in
+        each below judged.problem stands (values_of judged.problem judged.cert.lemmas) (values_hold trees)
+        judged.matrix judged.cert.main_tree
+        (subst (λ kind. MatrixOfKind kind judged.problem judged.matrix) is rule.matrix) trees.main q legal;
+  }
+    where
+      of_kind : (kind : Kind) → judged.cert.kind ≡ kind
+          → TreeOfKind kind judged.problem judged.matrix judged.cert
+      of_kind kind is =
+          subst (λ kind. TreeOfKind kind judged.problem judged.matrix judged.cert) is rule.tree

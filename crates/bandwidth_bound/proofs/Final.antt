@@ -33,8 +33,8 @@ use Rattle.grouping_tree.specs.Partial.{IsPartial, begins}
 use Rattle.grouping_tree.proofs.Fronts.{legal-partial}
 use Rattle.grouping_tree.proofs.Options.{get_or-next, take-front}
 use Rattle.bandwidth_bound.specs.Failing.{AreRefuted, RefutedBelow, numbers_of, order_below}
+use Rattle.bandwidth_bound.specs.Goals.{ClassesFail}
 use Rattle.bandwidth_bound.specs.Laws.{AreOf}
-use Rattle.bandwidth_bound.specs.Rule.{ClassesFail}
 use Rattle.bandwidth_bound.specs.Solvable.{Solvable}
 use Rattle.bandwidth_bound.proofs.Extend.{are_items, class_harder, class_in_range, classes_stay, first_labels, frame-class, length-frames}
 

@@ -1,11 +1,12 @@
 -- The order in which a named frame is tried, and when the frames that are named are too many or out of order.
-use Rattle.std.proofs.Common.{◌≡◌, ℕ, zero, suc, ◌+◌, ◌<◌, ◌≤◌, Bool, true, false, cond, List, [], ◌∷◌, ◌++◌, length, filter, nat_eq, All, Contains, sym, ap, ◌∙◌, arith, append-nil, append_assoc, length-append}
+use Rattle.std.proofs.Common.{◌≡◌, ℕ, zero, suc, ◌+◌, ◌-◌, ◌<◌, ◌≤◌, Bool, true, false, cond, List, [], ◌∷◌, ◌++◌, length, filter, nat_eq, All, Contains, sym, ap, subst, ◌∙◌, arith, append-nil, length-append}
 use Rattle.std.specs.Prelude.{not}
 use Rattle.std.specs.List.{IsDistinct, range_with_len, list_any}
 use Rattle.std.specs.List.Sorted.{IsStrictlyIncreasing}
 use Rattle.std.proofs.lemmas.Bool.{eqb-true}
 use Rattle.std.proofs.lemmas.List.{length-map}
 use Rattle.std.proofs.lemmas.List.Elements.{All-contains, filter-append}
+use Rattle.std.proofs.lemmas.List.FromFn.{length-range_with_len}
 use Rattle.std.proofs.lemmas.Map.Steps.{length-le_from_distinct_below}
 use Rattle.std.proofs.lemmas.Map.Views.{Contains-from_any}
 use Rattle.busy_period.specs.declared.timed.Timed.{Timed}
@@ -100,51 +101,68 @@ length-refuted frames bit hyper named all =
       length-map named (λ (entry : ℕ × Evidence). entry.0),
     )
 
--- a number that is a member is not appended
-pub remaining-skip : (members start numbers : List ℕ) (number : ℕ) → list_any (nat_eq number) members ≡ true
-    → numbers ≡ start ++ filter (λ k. not (list_any (nat_eq k) members)) (range_with_len 0 number)
-    → numbers ≡ start ++ filter (λ k. not (list_any (nat_eq k) members)) (range_with_len 0 (number + 1))
-remaining-skip members start numbers number found so_far =
+-- a number that is a member is not kept
+pub remaining-skip : (members numbers : List ℕ) (number : ℕ) → list_any (nat_eq number) members ≡ true
+    → numbers ≡ filter (λ k. not (list_any (nat_eq k) members)) (range_with_len 0 number)
+    → numbers ≡ filter (λ k. not (list_any (nat_eq k) members)) (range_with_len 0 (number + 1))
+remaining-skip members numbers number found so_far =
     let p : ℕ → Bool = λ k. not (list_any (nat_eq k) members) in
     let before : List ℕ = filter p (range_with_len 0 number) in
     let step : filter p (range_with_len 0 (number + 1)) ≡ before =
     filter-range_more p number ∙ ap (λ b. before ++ cond (not b) (number ∷ []) []) found
     ∙ append-nil before in
-    so_far ∙ ap (λ ys. start ++ ys) (sym step)
+    so_far ∙ sym step
 
 -- and one that isn't is
-pub remaining-push : (members start numbers : List ℕ) (number : ℕ) → list_any (nat_eq number) members ≡ false
-    → numbers ≡ start ++ filter (λ k. not (list_any (nat_eq k) members)) (range_with_len 0 number)
-    → numbers ++ number ∷ []
-    ≡ start ++ filter (λ k. not (list_any (nat_eq k) members)) (range_with_len 0 (number + 1))
-remaining-push members start numbers number absent so_far =
+pub remaining-push : (members numbers : List ℕ) (number : ℕ) → list_any (nat_eq number) members ≡ false
+    → numbers ≡ filter (λ k. not (list_any (nat_eq k) members)) (range_with_len 0 number)
+    → numbers ++ number ∷ [] ≡ filter (λ k. not (list_any (nat_eq k) members)) (range_with_len 0 (number + 1))
+remaining-push members numbers number absent so_far =
     let p : ℕ → Bool = λ k. not (list_any (nat_eq k) members) in
     let before : List ℕ = filter p (range_with_len 0 number) in
     let step : filter p (range_with_len 0 (number + 1)) ≡ before ++ number ∷ [] =
     filter-range_more p number ∙ ap (λ b. before ++ cond (not b) (number ∷ []) []) absent in
-    ap (λ xs. xs ++ number ∷ []) so_far ∙ append_assoc start before (number ∷ [])
-    ∙ ap (λ ys. start ++ ys) (sym step)
+    ap (λ xs. xs ++ number ∷ []) so_far ∙ sym step
 
 -- room for one more of the remaining frames
-pub remaining-room : (frames : List Timed) (members start numbers : List ℕ) (number : ℕ)
-    → length start + length (remaining_of frames members) ≤ 128 → number < length frames
-    → list_any (nat_eq number) members ≡ false
-    → numbers ≡ start ++ filter (λ k. not (list_any (nat_eq k) members)) (range_with_len 0 number)
+pub remaining-room : (frames : List Timed) (members numbers : List ℕ) (number : ℕ)
+    → length frames ≤ 128 → number < length frames → list_any (nat_eq number) members ≡ false
+    → numbers ≡ filter (λ k. not (list_any (nat_eq k) members)) (range_with_len 0 number)
     → length numbers < 128
-remaining-room frames members start numbers number room lt absent so_far =
+remaining-room frames members numbers number few lt absent so_far =
     let p : ℕ → Bool = λ k. not (list_any (nat_eq k) members) in
     omega (
       arith,
       filter-range_room p number (length frames) lt (ap not absent),
       ap length so_far,
-      length-append start (filter p (range_with_len 0 number)),
+      length-filter-le p (range_with_len 0 (length frames)),
+      length-range_with_len 0 (length frames),
     )
 
--- the parts of the order, put together
-pub order-parts : (frames : List Timed) (members : List ℕ) (own : ℕ) (others put all : List ℕ)
-    → others ≡ others_of own members → put ≡ others ++ own ∷ [] → all ≡ put ++ remaining_of frames members
-    → order_below frames members own ≡ all
-order-parts frames members own others put all is then' last =
-    let whole : all ≡ (others_of own members ++ own ∷ []) ++ remaining_of frames members =
-    last ∙ ap (λ xs. xs ++ remaining_of frames members) (then' ∙ ap (λ xs. xs ++ own ∷ []) is) in
-    sym (whole ∙ append_assoc (others_of own members) (own ∷ []) (remaining_of frames members))
+-- the place of the frame is what is left before the remaining ones
+pub place-below : (members order rest : List ℕ) (own place : ℕ)
+    → order ≡ others_of own members ++ own ∷ rest → place ≡ length order - length rest - 1
+    → place ≡ length (others_of own members)
+place-below members order rest own place is at =
+    omega (arith, at, ap length is, length-append (others_of own members) (own ∷ rest))
+
+-- the order has room
+pub room-below : (frames : List Timed) (members rest : List ℕ) (own : ℕ)
+    → length frames ≤ 128 → All IsInRange frames
+    → All (λ number. number < length frames) members → IsStrictlyIncreasing members → Contains members own
+    → rest ≡ remaining_of frames members → length (others_of own members) + 1 + length rest ≤ 128
+room-below frames members rest own few ranges there rises in' is =
+    omega (arith, few, length-order frames members own few ranges there rises in', ap length is)
+
+-- and it is that of a stage
+pub stage-below : (frames : List Timed) (members order rest : List ℕ) (own place : ℕ)
+    → length frames ≤ 128 → All IsInRange frames
+    → All (λ number. number < length frames) members → IsStrictlyIncreasing members → Contains members own
+    → rest ≡ remaining_of frames members → order ≡ others_of own members ++ own ∷ rest
+    → place ≡ length (others_of own members) → IsStage frames order place
+stage-below frames members order rest own place few ranges there rises in' rest_is is at =
+    let others : List ℕ = others_of own members in
+    let same : order_below frames members own ≡ order = sym (is ∙ ap (λ xs. others ++ own ∷ xs) rest_is) in
+    subst (λ n. IsStage frames order n) (sym at)
+    (subst (λ xs. IsStage frames xs (length others)) same
+    (order_stage frames members own few ranges there (distinct_rising members rises) in'))

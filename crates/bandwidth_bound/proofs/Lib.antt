@@ -13,4 +13,5 @@ pub mod PriceSplits
 pub mod PriceSums
 pub mod Shown
 pub mod Standing
+pub mod StandingLemmas
 pub mod TreeClaims

@@ -1,4 +1,4 @@
--- The lower bound with prices is below every completion, and the load where all items are placed.
+-- The lower bound is below every completion, and the load where all items are placed.
 use Rattle.std.proofs.Common.{◌≡◌, ℕ, zero, suc, ◌+◌, ◌-◌, ◌*◌, ◌<◌, ◌≤◌, ◌^◌, ◌⊎◌, inl, inr, Bool, true, false, cond, List, [], ◌∷◌, ◌++◌, length, take, drop, map, nat_lt, sum_by, Option, None, Some, All, Contains, slice_index_or, refl, sym, ap, subst, ◌∙◌, arith, length-append, take-append-drop, length-take-le}
 use Rattle.std.specs.List.{flat_map, range_with_len}
 use Rattle.std.proofs.lemmas.Bool.{cases_eq}
@@ -14,12 +14,13 @@ use Rattle.class_frame.specs.Grouping.{class_of, classes_of}
 use Rattle.class_frame.specs.Legal.{ClassStands, IsLegal}
 use Rattle.grouping_tree.specs.Grouped.{items_in}
 use Rattle.grouping_tree.specs.Partial.{IsPartial, begins}
+use Rattle.grouping_tree.specs.Slack.{at_sender, over_classes, sender_in_work, slack_of, slacks_of}
 use Rattle.grouping_tree.proofs.Fronts.{legal-partial}
 use Rattle.grouping_tree.proofs.Senders.{Rises, problem_rises}
-use Rattle.bandwidth_bound.specs.Bounds.{load8_of, lower8_of}
+use Rattle.bandwidth_bound.specs.Bounds.{load8_of}
 use Rattle.bandwidth_bound.specs.Laws.{AreOf}
-use Rattle.bandwidth_bound.specs.PriceLaws.{LemmasHold}
-use Rattle.bandwidth_bound.specs.Prices.{at_sender, floor8_of, later8_of, left8_of, next_sender, over_classes, price_of, priced8_of, prices_of, sender_in_work, slack_of, slacks_of, terms8_of}
+use Rattle.bandwidth_bound.specs.Lemmas.{LemmasHold}
+use Rattle.bandwidth_bound.specs.Prices.{floor8_of, later8_of, left8_of, lower8_of, next_sender, price_of, prices_of, terms8_of}
 use Rattle.bandwidth_bound.proofs.Extend.{are_items}
 use Rattle.bandwidth_bound.proofs.Loads.{loads_fit}
 use Rattle.bandwidth_bound.proofs.PriceFloors.{IsFloor, bound-below, item_at, joined, one-of-sender, over-joined, prices-floor}
@@ -289,24 +290,24 @@ module _ (problem : Parts) (stands : IsProblem problem) where
       (omega (arith, partial.within, range_few range))
 
   -- the bound is below each completion
-  pub priced_is_below : (range : Option ℕ) (lemmas : List ℕ) → LemmasHold problem lemmas → (p q : List ℕ)
+  pub bound_is_below : (range : Option ℕ) (lemmas : List ℕ) → LemmasHold problem lemmas → (p q : List ℕ)
       → IsPartial (items_in problem.items range) p → IsLegal (items_in problem.items range) q
       → begins p q ≡ true
-      → priced8_of problem lemmas (items_in problem.items range) p
+      → lower8_of problem lemmas (items_in problem.items range) p
       ≤ 8 * load_of problem (items_in problem.items range) q
-  priced_is_below range lemmas hold p q partial legal extends =
+  bound_is_below range lemmas hold p q partial legal extends =
       let it = terms_below problem stands (items_in problem.items range)
       (are_items problem stands (items_in problem.items range) (range_of range)) (range_rises range)
       (range_all (λ item. item.sender < length problem.senders) (senders_low problem stands) range) p
       partial.within lemmas hold (range_own range) q legal extends in
       omega (arith, it)
 
-  -- and no less than the one by loads alone
-  pub priced_is_more : (range : Option ℕ) (lemmas : List ℕ) (p : List ℕ)
+  -- and no less than the load of the classes so far
+  pub bound_is_more : (range : Option ℕ) (lemmas : List ℕ) (p : List ℕ)
       → IsPartial (items_in problem.items range) p
-      → lower8_of problem (items_in problem.items range) p
-      ≤ priced8_of problem lemmas (items_in problem.items range) p
-  priced_is_more range lemmas p partial = omega (arith, fits range p partial)
+      → load8_of problem (items_in problem.items range) p
+      ≤ lower8_of problem lemmas (items_in problem.items range) p
+  bound_is_more range lemmas p partial = omega (arith, fits range p partial)
 
   -- where all items are placed nothing is left
   module _ (range : Option ℕ) (lemmas : List ℕ) (q : List ℕ)
@@ -351,10 +352,10 @@ module _ (problem : Parts) (stands : IsProblem problem) where
     terms_exact : terms8_of problem lemmas items q ≡ load8_of problem items q
     terms_exact = omega (arith, later_none, left_none (sender_in_work items q))
 
-  pub priced_is_exact : (range : Option ℕ) (lemmas : List ℕ) (q : List ℕ)
+  pub bound_is_exact : (range : Option ℕ) (lemmas : List ℕ) (q : List ℕ)
       → IsLegal (items_in problem.items range) q
-      → priced8_of problem lemmas (items_in problem.items range) q
+      → lower8_of problem lemmas (items_in problem.items range) q
       ≡ load8_of problem (items_in problem.items range) q
-  priced_is_exact range lemmas q legal =
+  bound_is_exact range lemmas q legal =
       let low = fits range q (legal-partial (items_in problem.items range) q legal) in
       omega (arith, low, terms_exact range lemmas q legal)

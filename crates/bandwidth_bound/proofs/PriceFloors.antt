@@ -9,7 +9,7 @@ use Rattle.pack_model.specs.declared.item.Item.{Item}
 use Rattle.class_frame.specs.Grouping.{class_of, classes_of}
 use Rattle.class_frame.specs.Legal.{ClassStands, IsLegal}
 use Rattle.grouping_tree.specs.Partial.{begins}
-use Rattle.bandwidth_bound.specs.Prices.{at_sender, over_classes}
+use Rattle.grouping_tree.specs.Slack.{at_sender, over_classes}
 use Rattle.bandwidth_bound.proofs.PriceSplits.{AreApart, first-whole, rest-whole, over-both}
 use Rattle.bandwidth_bound.proofs.PriceSums.{IsPriced, prices-within}
 

@@ -24,8 +24,9 @@ use Rattle.class_frame.proofs.Harder.{more_is_harder, size-front}
 use Rattle.class_frame.proofs.Joining.{signals-append}
 use Rattle.class_frame.proofs.Ranges.{frame_in_range}
 use Rattle.class_frame.proofs.Used.{items_have_signal}
+use Rattle.grouping_tree.specs.Slack.{slack_of}
 use Rattle.bandwidth_bound.specs.Laws.{AreOf}
-use Rattle.bandwidth_bound.specs.Prices.{price_of, prices_of, slack_of}
+use Rattle.bandwidth_bound.specs.Prices.{price_of, prices_of}
 use Rattle.bandwidth_bound.proofs.Extend.{are_items}
 
 -- the inequality over plain numbers: the ticks of a data bit, and of a class and a larger one the sizes,

@@ -7,8 +7,9 @@ use Rattle.std.proofs.lemmas.List.Sums.{sum_by-cons}
 use Rattle.pack_model.specs.declared.item.Item.{Item}
 use Rattle.pack_model.specs.Problem.{sent_by}
 use Rattle.class_frame.specs.Legal.{IsLegal}
+use Rattle.grouping_tree.specs.Slack.{last_sender, over_classes}
 use Rattle.grouping_tree.proofs.Senders.{Rises}
-use Rattle.bandwidth_bound.specs.Prices.{last_sender, next_sender, over_classes}
+use Rattle.bandwidth_bound.specs.Prices.{next_sender}
 use Rattle.bandwidth_bound.proofs.PriceFloors.{AreAllApart, IsFloor, item_at, joined}
 
 -- the items of senders before one

@@ -9,9 +9,9 @@ use Rattle.pack_model.specs.declared.item.Item.{Item}
 use Rattle.class_frame.specs.Grouping.{class_of, classes_of}
 use Rattle.class_frame.specs.Legal.{ClassStands, IsLegal}
 use Rattle.class_frame.proofs.GroupingLaws.{used}
+use Rattle.grouping_tree.specs.Slack.{over_classes}
 use Rattle.grouping_tree.proofs.Classes.{stands-front, get_or-front}
 use Rattle.grouping_tree.proofs.Puts.{class-unused}
-use Rattle.bandwidth_bound.specs.Prices.{over_classes}
 
 -- no item of the one has the sender of one of the other
 abbrev pub AreApart : List Item → List Item → Type 0

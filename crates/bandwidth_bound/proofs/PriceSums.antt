@@ -10,11 +10,11 @@ use Rattle.class_frame.specs.Grouping.{class_of, classes_of}
 use Rattle.class_frame.specs.Legal.{ClassStands, IsLegal}
 use Rattle.class_frame.proofs.GroupingLaws.{All-class_of, sum_by-classes}
 use Rattle.grouping_tree.specs.Partial.{begins}
+use Rattle.grouping_tree.specs.Slack.{over_classes}
 use Rattle.grouping_tree.proofs.Classes.{class-append}
 use Rattle.grouping_tree.proofs.Fronts.{begins-is}
 use Rattle.grouping_tree.proofs.Options.{range-once}
 use Rattle.grouping_tree.proofs.Puts.{class-unused}
-use Rattle.bandwidth_bound.specs.Prices.{over_classes}
 use Rattle.bandwidth_bound.proofs.PriceSplits.{classes-append, range-split, sum-shift}
 
 -- as items that are right join a class, it costs no less than it did and their prices, less its slack

@@ -1,6 +1,5 @@
 -- What the trees of a certificate show where the acceptance rule holds.
 use Rattle.std.proofs.Common.{◌≡◌, ℕ, ◌*◌, ◌≤◌, ◌⊎◌, inl, inr, ◌||◌, Bool, true, false, List, [], ◌∷◌, map, fold, min, Option, Some, None, refl, subst, arith}
-use Rattle.std.proofs.lemmas.List.Elements.{All-contains_itself}
 use Rattle.pack_model.specs.Problem.{Parts, IsProblem}
 use Rattle.class_frame.specs.Classes.{load_of}
 use Rattle.class_frame.specs.Frame.{least}
@@ -11,11 +10,14 @@ use Rattle.matrix_text.specs.Frames.{grouping_of}
 use Rattle.cert_text.specs.Trees.{Plain}
 use Rattle.cert_text.specs.declared.parts.Kind.{Kind}
 use Rattle.cert_text.specs.declared.parts.Kind.TheVariants.{KindBetween, KindBest, KindNoSolution}
-use Rattle.bandwidth_bound.specs.Bounds.{lower8_of}
 use Rattle.bandwidth_bound.specs.Covering.{ReachesBest, TreesShow, extends_some}
 use Rattle.bandwidth_bound.specs.Follows.{EachReaches, NoneIsBetter, NoneIsSolvable}
-use Rattle.bandwidth_bound.specs.Laws.{BoundIsBelow, FailingIsFinal}
-use Rattle.bandwidth_bound.specs.Rule.{Judged, MainStands, MatrixOfKind, RuleHolds, TreeOfKind, best_of, least_open, lower_of, main_goal, open_of}
+use Rattle.bandwidth_bound.specs.Goals.{main_goal}
+use Rattle.bandwidth_bound.specs.Laws.{FailingIsFinal}
+use Rattle.bandwidth_bound.specs.Lemmas.{LemmasHold, StandingLemmasHold, values_of}
+use Rattle.bandwidth_bound.specs.PriceLaws.{BoundIsBelow}
+use Rattle.bandwidth_bound.specs.Prices.{lower8_of}
+use Rattle.bandwidth_bound.specs.Rule.{Judged, MainStands, MatrixOfKind, RuleHolds, TreeOfKind, TreesStand, best_of, least_open, lower_of, open_of}
 use Rattle.bandwidth_bound.specs.Solvable.{Solvable}
 use Rattle.bandwidth_bound.specs.Trees.{TreeStands, open_places}
 use Rattle.bandwidth_bound.proofs.TreeClaims.{claim, none_open}
@@ -51,34 +53,35 @@ module _ (f : List ℕ → ℕ) (q : List ℕ) (n : ℕ) (each : (p : List ℕ) 
 
 module _ (below : BoundIsBelow) (final : FailingIsFinal) where
   -- a grouping that can meet all deadlines has at least the best's load or extends an open place
-  pub trees_claim : (problem : Parts) (best : Option ℕ) (may_leave : Bool) (p q : List ℕ) (tree : Plain)
-      → IsProblem problem → TreeStands (main_goal problem best may_leave) p tree → Solvable problem q
+  pub trees_claim : (problem : Parts) (values : List ℕ) (best : Option ℕ) (may_leave : Bool)
+      (p q : List ℕ) (tree : Plain) → IsProblem problem → LemmasHold problem values
+      → TreeStands (main_goal problem values best may_leave) p tree → Solvable problem q
       → begins p q ≡ true
       → ReachesBest problem best q ⊎ (extends_some (open_places problem.items p tree) q ≡ true)
-  trees_claim problem best may_leave p q tree stands h solvable e =
-      claim (main_goal problem best may_leave) q solvable.legal (load_of problem problem.items q)
-      (λ place partial b.
-      below problem stands problem.items (All-contains_itself problem.items) place q partial solvable.legal b)
+  trees_claim problem values best may_leave p q tree stands hold h solvable e =
+      claim (main_goal problem values best may_leave) q solvable.legal (load_of problem problem.items q)
+      (λ place partial b. below problem stands None values hold place q partial solvable.legal b)
       (λ place named partial b refuted.
       final problem stands place q named partial solvable.legal b refuted solvable)
       p tree h e
 
-  module _ (problem : Parts) (stands : IsProblem problem) where
+  module _ (problem : Parts) (stands : IsProblem problem) (values : List ℕ)
+      (hold : LemmasHold problem values) where
     -- the same of the main tree
     main_claims : (best : Option ℕ) (may_leave : Bool) (tree : Option Plain)
-        → MainStands problem best may_leave tree → (q : List ℕ) → Solvable problem q
+        → MainStands problem values best may_leave tree → (q : List ℕ) → Solvable problem q
         → ReachesBest problem best q ⊎ (extends_some (open_of problem tree) q ≡ true)
     main_claims best may_leave None h q solvable = absurd h
     main_claims best may_leave (Some tree) h q solvable =
-        trees_claim problem best may_leave [] q tree stands h solvable refl
+        trees_claim problem values best may_leave [] q tree stands hold h solvable refl
 
-    main_closed : (best : Option ℕ) (tree : Option Plain) → MainStands problem best false tree
+    main_closed : (best : Option ℕ) (tree : Option Plain) → MainStands problem values best false tree
         → open_of problem tree ≡ []
     main_closed best None h = absurd h
-    main_closed best (Some tree) h = none_open (main_goal problem best false) refl [] tree h
+    main_closed best (Some tree) h = none_open (main_goal problem values best false) refl [] tree h
 
     -- without open leaves it has at least the best's load
-    reached : (best : Option ℕ) (tree : Option Plain) → MainStands problem best false tree → (q : List ℕ)
+    reached : (best : Option ℕ) (tree : Option Plain) → MainStands problem values best false tree → (q : List ℕ)
         → Solvable problem q → ReachesBest problem best q
     reached best tree h q solvable = elim (main_claims best false tree h q solvable) [
       | inl it ↦ it
@@ -89,7 +92,7 @@ module _ (below : BoundIsBelow) (final : FailingIsFinal) where
     ]
 
     none_better : (rows : List MatrixRow) (tree : Option Plain)
-        → MainStands problem (best_of problem rows) false tree
+        → MainStands problem values (best_of problem rows) false tree
         → NoneIsBetter problem (load_of problem problem.items (grouping_of problem rows))
     none_better [] tree h q solvable = absurd (reached None tree h q solvable)
     none_better (row ∷ rows) tree h q solvable =
@@ -99,24 +102,24 @@ module _ (below : BoundIsBelow) (final : FailingIsFinal) where
         omega arith
 
     none_solvable : (rows : List MatrixRow) (tree : Option Plain) → rows ≡ []
-        → MainStands problem (best_of problem rows) false tree → NoneIsSolvable problem
+        → MainStands problem values (best_of problem rows) false tree → NoneIsSolvable problem
     none_solvable rows tree empty h q solvable =
-        reached None tree (subst (λ rows. MainStands problem (best_of problem rows) false tree) empty h) q
+        reached None tree (subst (λ rows. MainStands problem values (best_of problem rows) false tree) empty h) q
         solvable
 
     -- the least bound at open places is below
     open_below : (tree : Option Plain) (q : List ℕ) → Solvable problem q
         → extends_some (open_of problem tree) q ≡ true
-        → least_open problem tree ≤ 8 * load_of problem problem.items q
+        → least_open problem values tree ≤ 8 * load_of problem problem.items q
     open_below tree q solvable some =
         let legal = solvable.legal in
-        least_extended (lower8_of problem problem.items) q (8 * load_of problem problem.items q)
-        (λ p e. below problem stands problem.items (All-contains_itself problem.items) p q
+        least_extended (lower8_of problem values problem.items) q (8 * load_of problem problem.items q)
+        (λ p e. below problem stands None values hold p q
         (front-legal problem.items p q e (legal-partial problem.items q legal)) legal e)
         (open_of problem tree) some
 
-    each_reaches : (best : Option ℕ) (tree : Option Plain) → MainStands problem best true tree
-        → EachReaches problem (lower_of problem best tree)
+    each_reaches : (best : Option ℕ) (tree : Option Plain) → MainStands problem values best true tree
+        → EachReaches problem (lower_of problem values best tree)
     each_reaches None tree h q solvable = elim (main_claims None true tree h q solvable) [
       | inl it ↦ absurd it
       | inr some ↦ open_below tree q solvable some
@@ -128,17 +131,34 @@ module _ (below : BoundIsBelow) (final : FailingIsFinal) where
 
   -- ---- the certificate
 
-  pub trees_hold : (judged : Judged) → IsProblem judged.problem → RuleHolds judged → TreesShow judged
-  trees_hold judged stands rule = record {
-    best = λ is.
-        none_better judged.problem stands judged.matrix judged.cert.main_tree (of_kind KindBest is).1;
-    no_solution = λ is. none_solvable judged.problem stands judged.matrix judged.cert.main_tree
-        (subst (λ kind. MatrixOfKind kind judged.problem judged.matrix) is rule.matrix)
-        (of_kind KindNoSolution is).1;
-    between = λ is. each_reaches judged.problem stands (best_of judged.problem judged.matrix)
-        judged.cert.main_tree (of_kind KindBetween is).1;
-  }
-    where
-      of_kind : (kind : Kind) → judged.cert.kind ≡ kind
-          → TreeOfKind kind judged.problem judged.matrix judged.cert
-      of_kind kind is = subst (λ kind. TreeOfKind kind judged.problem judged.matrix judged.cert) is rule.tree
+  module _ (lemmas_hold : StandingLemmasHold) (judged : Judged) (stands : IsProblem judged.problem) where
+    -- the values of its lemmas hold
+    values_hold : (best : Option ℕ) (may_leave : Bool)
+        → TreesStand judged.problem best may_leave judged.cert
+        → LemmasHold judged.problem (values_of judged.problem judged.cert.lemmas)
+    values_hold best may_leave trees = lemmas_hold judged.problem stands judged.cert.lemmas trees.lemmas
+
+    pub trees_hold : RuleHolds judged → TreesShow judged
+    trees_hold rule = record {
+      best = λ is.
+          let trees = of_kind KindBest is in
+          none_better judged.problem stands (values_of judged.problem judged.cert.lemmas)
+          (values_hold (best_of judged.problem judged.matrix) false trees) judged.matrix
+          judged.cert.main_tree trees.main;
+      no_solution = λ is.
+          let trees = of_kind KindNoSolution is in
+          none_solvable judged.problem stands (values_of judged.problem judged.cert.lemmas)
+          (values_hold (best_of judged.problem judged.matrix) false trees) judged.matrix
+          judged.cert.main_tree
+          (subst (λ kind. MatrixOfKind kind judged.problem judged.matrix) is rule.matrix) trees.main;
+      between = λ is.
+          let trees = (of_kind KindBetween is).0 in
+          each_reaches judged.problem stands (values_of judged.problem judged.cert.lemmas)
+          (values_hold (best_of judged.problem judged.matrix) true trees)
+          (best_of judged.problem judged.matrix) judged.cert.main_tree trees.main;
+    }
+      where
+        of_kind : (kind : Kind) → judged.cert.kind ≡ kind
+            → TreeOfKind kind judged.problem judged.matrix judged.cert
+        of_kind kind is =
+            subst (λ kind. TreeOfKind kind judged.problem judged.matrix judged.cert) is rule.tree

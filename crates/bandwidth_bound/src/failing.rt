@@ -1,6 +1,6 @@
 //! Whether frames that are named with evidence are refuted: each below the others that are named, and above
 //! all remaining ones.
-ghost use Rattle.std.specs.Prelude.{◌≡◌, ◌+◌, ◌<◌, ◌≤◌, ◌++◌, ◌↔◌, All, Contains, IsTrue, length, map, nat_eq};
+ghost use Rattle.std.specs.Prelude.{◌≡◌, ◌+◌, ◌<◌, ◌≤◌, ◌++◌, ◌∷◌, ◌↔◌, All, Contains, IsTrue, length, map, nat_eq};
 ghost use Rattle.std.specs.List.{list_any};
 ghost use Rattle.std.specs.List.Sorted.{IsStrictlyIncreasing};
 ghost use Rattle.busy_period.specs.Timed.{IsInRange};
@@ -65,17 +65,32 @@ fn is_member(members: &[u32], number: u32) -> bool
     members.iter().any(|member| number == *member)
 }
 
-/// Appends the numbers of the frames that aren't members.
-fn push_remaining(order: &mut ArrayVec<u32, 128>, frames: &[Timed], members: &[u32])
-    requires few { length frames.now ≤ 128 }
-    requires room { length order.old.items + length (remaining_of frames.now members.now) ≤ 128 }
-    ensures { order.new.items ≡ order.old.items ++ remaining_of frames.now members.now }
+/// The numbers of the frames that aren't members, ascending. It takes no memory.
+pub fn remaining(frames: &[Timed], members: &[u32]) -> ArrayVec<u32, 128>
+    requires { length frames.now ≤ 128 }
+    ensures { result.items ≡ remaining_of frames.now members.now }
 {
+    let mut remaining = ArrayVec::new();
     for number in 0..frames.len() as u32 {
         if !is_member(members, number) {
-            order.push(number);
+            remaining.push(number);
         }
     }
+    remaining
+}
+
+/// The order in which a member is below the other ones and above the remaining frames. It takes no memory.
+pub fn order_below(members: &[u32], own: u32, remaining: &[u32]) -> ArrayVec<u32, 128>
+    requires few { length members.now ≤ 128 }
+    requires room { length (others_of own members.now) + 1 + length remaining.now ≤ 128 }
+    ensures { result.items ≡ others_of own members.now ++ own ∷ remaining.now }
+{
+    let mut order = others(members, own);
+    order.push(own);
+    for number in remaining {
+        order.push(*number);
+    }
+    order
 }
 
 /// Whether evidence refutes a member below the other ones and above all remaining frames.
@@ -84,6 +99,7 @@ fn is_refuted(
     bit: u64,
     hyper: u64,
     members: &[u32],
+    remaining: &[u32],
     own: u32,
     evidence: &Evidence,
 ) -> bool
@@ -93,13 +109,12 @@ fn is_refuted(
     requires hyper { IsCommon frames.now hyper }
     requires there { All (λ number. number < length frames.now) members.now }
     requires ascending { IsStrictlyIncreasing members.now }
+    requires remaining { remaining.now ≡ remaining_of frames.now members.now }
     requires member { Contains members.now own }
     ensures { IsTrue result ↔ RefutedBelow frames.now bit hyper members.now own evidence.now }
 {
-    let mut order = others(members, own);
-    let place = order.len();
-    order.push(own);
-    push_remaining(&mut order, frames, members);
+    let order = order_below(members, own, remaining);
+    let place = order.len() - remaining.len() - 1;
     refuted(frames, order.as_slice(), place, bit, hyper, evidence)
 }
 
@@ -121,8 +136,17 @@ pub fn refutes(frames: &[Timed], bit: u64, hyper: u64, named: &[(u32, Evidence)]
     if !ascend(members.as_slice()) || !are_there(members.as_slice(), frames.len()) {
         return false;
     }
+    let rest = remaining(frames, members.as_slice());
     for (own, evidence) in named {
-        if !is_refuted(frames, bit, hyper, members.as_slice(), *own, evidence) {
+        if !is_refuted(
+            frames,
+            bit,
+            hyper,
+            members.as_slice(),
+            rest.as_slice(),
+            *own,
+            evidence,
+        ) {
             return false;
         }
     }

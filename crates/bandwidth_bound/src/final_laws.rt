@@ -1,5 +1,5 @@
 //! Laws of partial groupings as items are put.
-ghost use Rattle.bandwidth_bound.specs.Laws.{BoundIsBelow, ClassesExtend, ClassesStay, FailSetIsFinal, FailingIsFinal, FailingSetsGrow, LoadsNeverFall, RefutedIsFailing};
+ghost use Rattle.bandwidth_bound.specs.Laws.{ClassesExtend, ClassesStay, FailSetIsFinal, FailingIsFinal, FailingSetsGrow, LoadsNeverFall, RefutedIsFailing};
 
 /// With more labels a class has its items and perhaps more, and there are no fewer classes.
 pub fn classes_extend()
@@ -10,11 +10,6 @@ pub fn classes_extend()
 /// The load of the classes so far, in ticks a common period, never falls as items are put.
 pub fn loads_never_fall()
     ensures { LoadsNeverFall }
-{}
-
-/// The lower bound at a partial grouping is at most 8 times the load of each legal grouping that extends it.
-pub fn bound_is_below()
-    ensures { BoundIsBelow }
 {}
 
 /// Frames that are refuted, each with the others of them higher and all remaining ones lower, are a failing

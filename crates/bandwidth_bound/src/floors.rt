@@ -1,5 +1,5 @@
 //! What the items that are not placed cost at least, and the lower bound by it.
-ghost use Rattle.std.specs.Prelude.{◌≡◌, ◌≤◌, ◌<◌, ◌×◌, ℕ, List, length, IfOk, IfSome};
+ghost use Rattle.std.specs.Prelude.{◌≡◌, ◌≤◌, ◌<◌, ℕ, List, length, IfOk, IfSome};
 ghost use Rattle.pack_model.specs.Problem.{Parts};
 ghost use Rattle.grouping_tree.specs.Grouped.{Belongs, items_in, labels_of, range_of, sender_of};
 ghost use Rattle.bandwidth_bound.specs.Floors.{AreFloors, HasTables, floors_room};

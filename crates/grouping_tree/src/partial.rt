@@ -1,5 +1,5 @@
 //! A partial grouping with its running sums.
-ghost use Rattle.std.specs.Prelude.{◌≡◌, ◌≤◌, ◌<◌, ◌+◌, ℕ, Some, None, List, [], ◌∷◌, ◌++◌, length, count_by, nat_eq, nat_lt, take, drop, slice_index, slice_index_or, IfOk, IfSome, MatchOption};
+ghost use Rattle.std.specs.Prelude.{◌≡◌, ◌≤◌, ◌↔◌, IsTrue, ◌<◌, ◌+◌, ℕ, Some, None, List, [], ◌∷◌, ◌++◌, length, count_by, nat_eq, nat_lt, take, drop, slice_index, slice_index_or, IfOk, IfSome, MatchOption};
 ghost use Rattle.busy_period.specs.Timed.{IsInRange};
 ghost use Rattle.pack_model.specs.Problem.{Parts, sent_by};
 ghost use Rattle.pack_model.specs.declared.item.Item.{Item};
@@ -153,6 +153,15 @@ impl Partial {
         ensures { result.now ≡ labels_of self.now }
     {
         &self.labels[..self.count]
+    }
+
+    /// Whether each item of the range has a label.
+    pub fn is_full(&self) -> bool
+        requires { (problem : Parts) × Belongs problem self.now }
+        ensures { (problem : Parts) → Belongs problem self.now
+            → IsTrue result ↔ (length (labels_of self.now) ≡ length (range_of problem self.now)) }
+    {
+        self.count == self.many
     }
 
     /// The number of classes that the labels make.

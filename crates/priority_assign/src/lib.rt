@@ -15,4 +15,4 @@ mod level;
 mod tests;
 
 pub use assignment::{Assigned, assign};
-pub use laws::one_order_is_lowest_first;
+pub use laws::{one_order_is_lowest_first, one_set_is_stuck};

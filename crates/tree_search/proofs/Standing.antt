@@ -11,7 +11,8 @@ use Rattle.bandwidth_bound.specs.Trees.{EachStands, Goal, TreeStands, open_place
 use Rattle.tree_search.specs.declared.finding.Finding.{Finding}
 use Rattle.tree_search.specs.declared.finding.Finding.TheVariants.{Bounded, Failed, Complete, Parted}
 use Rattle.tree_search.specs.Open.{HasOptions}
-use Rattle.tree_search.specs.Sound.{IsNoWorse, Shown, eighths, goal_of}
+use Rattle.bandwidth_bound.specs.Goals.{eighths}
+use Rattle.tree_search.specs.Sound.{IsNoWorse, Shown, goal_of}
 use Rattle.tree_search.specs.Step.{Searched, Step, Steps, best_after, leaf_after}
 use Rattle.tree_search.specs.Trim.{reaches, trim, trim_each}
 use Rattle.tree_search.proofs.Firsts.{stand-lefts, stands-put_first}

@@ -164,7 +164,10 @@ impl Search {
     // A step.
     fn step<J: Judge>(&mut self, judge: &mut J, problem: &Problem) -> Result<(), Memory>
         requires search { IsOf problem.now self.old }
+        requires suits { J.suits judge.old problem.now (items_of problem.now self.old) }
         requires open { self.old.open ≡ true }
+        ensures suits { (parts : Parts) (items : List Item)
+            → J.suits judge.old parts items → J.suits judge.new parts items }
         ensures goes_on { OnOk result (GoesOn problem.now self.old self.new) }
         ensures count { OnOk result (length self.new.nodes.items ≡ length self.old.nodes.items + 1) }
         ensures bounds { J.bound_of judge.new ≡ J.bound_of judge.old }
@@ -204,7 +207,10 @@ impl Search {
         problem: &Problem,
         steps: u64,
     ) -> Result<u64, Memory>
-        requires { IsOf problem.now self.old }
+        requires search { IsOf problem.now self.old }
+        requires suits { J.suits judge.old problem.now (items_of problem.now self.old) }
+        ensures suits { (parts : Parts) (items : List Item)
+            → J.suits judge.old parts items → J.suits judge.new parts items }
         ensures goes_on { OnOk result (GoesOn problem.now self.old self.new) }
         ensures count { IfOk result
             (λ made. length self.new.nodes.items ≡ length self.old.nodes.items + made) }
@@ -256,6 +262,7 @@ impl Search {
         value: u128,
     ) -> Result<Tree, Memory>
         requires search { IsOf problem.now self }
+        requires suits { J.suits judge.now problem.now (items_of problem.now self) }
         requires done { self.open ≡ false }
         requires tree { (x : Searched) × IsAt problem.now self x }
         ensures { IfOk result (λ tree. (x : Searched) → IsAt problem.now self x

@@ -52,6 +52,7 @@ impl Trimming {
         node: Node,
     ) -> Result<(), Memory>
         requires belongs { Belongs problem.now partial.old }
+        requires suits { J.suits judge.now problem.now (range_of problem.now partial.old) }
         requires below { self.old.base ≤ length (labels_of partial.old) }
         requires open { self.old.open ≡ true }
         requires none { self.old.skip ≡ 0 }
@@ -104,6 +105,7 @@ impl Trimming {
         node: Node,
     ) -> Result<(), Memory>
         requires belongs { Belongs problem.now partial.old }
+        requires suits { J.suits judge.now problem.now (range_of problem.now partial.old) }
         requires below { self.old.base ≤ length (labels_of partial.old) }
         requires trims { let items = range_of problem.now partial.old
             in let cut = reaches (J.bound_of judge.now problem.now items) value
@@ -139,7 +141,8 @@ impl Trimming {
 
 // Whether the lower bound at a partial grouping reaches a value.
 fn is_cut<J: Judge>(judge: &J, problem: &Problem, partial: &Partial, value: u128) -> bool
-    requires { Belongs problem.now partial.now }
+    requires belongs { Belongs problem.now partial.now }
+    requires suits { J.suits judge.now problem.now (range_of problem.now partial.now) }
     ensures { result ≡ reaches (J.bound_of judge.now problem.now (range_of problem.now partial.now)) value
         (labels_of partial.now) }
 {
@@ -158,6 +161,7 @@ pub fn trim<J: Judge>(
     value: u128,
 ) -> Result<Vec<Node>, Memory>
     requires belongs { Belongs problem.now partial.old }
+    requires suits { J.suits judge.now problem.now (range_of problem.now partial.old) }
     requires tree { (t : Plain) × (flat t ≡ nodes.items)
         × HasOptions (range_of problem.now partial.old) (labels_of partial.old) t }
     ensures belongs { Belongs problem.now partial.new }
@@ -199,6 +203,7 @@ pub fn trim_tree<J: Judge>(
     value: u128,
 ) -> Result<Tree, Memory>
     requires belongs { Belongs problem.now partial.old }
+    requires suits { J.suits judge.now problem.now (range_of problem.now partial.old) }
     requires tree { HasOptions (range_of problem.now partial.old) (labels_of partial.old) (plain_of tree) }
     ensures belongs { Belongs problem.now partial.new }
     ensures range { range_of problem.now partial.new ≡ range_of problem.now partial.old }

@@ -27,6 +27,9 @@ loop-node-init g c =
           ) h;
     }
 
+pub take-requires-clause-suits : goal.take-requires-clause-suits
+take-requires-clause-suits g c = rw c.loop-node.invariant.range c.requires.suits
+
 pub take-requires-clause-trims : goal.take-requires-clause-trims
 take-requires-clause-trims g c =
     let problem = c.args.problem.now in

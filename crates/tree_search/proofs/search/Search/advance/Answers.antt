@@ -6,13 +6,20 @@ use Rattle.tree_search.proofs.search.Search.advance.Goals as goal
 
 pub loop-made-init : goal.loop-made-init
 loop-made-init g c = record {
-  goes_on = goes_on-same c.args.problem.now c.args.self.now c.requires;
+  goes_on = goes_on-same c.args.problem.now c.args.self.now c.requires.search;
   count = omega arith;
   within = omega arith;
+  suits = λ parts items h. h;
   bounds = refl;
   same = λ parts items load p finding h. h;
   gives = λ x at. (x, refl, at);
 }
+
+pub step-requires-clause-suits : goal.step-requires-clause-suits
+step-requires-clause-suits g c =
+    let inv = c.loop-made.invariant in
+    rw inv.goes_on.items (inv.suits c.args.problem.now (items_of c.args.problem.now c.args.self.now)
+    c.requires.suits)
 
 pub loop-made-preserved : goal.loop-made-preserved
 loop-made-preserved g c =
@@ -27,6 +34,7 @@ loop-made-preserved g c =
       goes_on = goes_on-trans problem first here c.step.new.self inv.goes_on told.goes_on;
       count = told.count ∙ omega (arith, inv.count);
       within = omega arith;
+      suits = λ parts items h. told.suits parts items (inv.suits parts items h);
       bounds = told.bounds ∙ inv.bounds;
       same =
           λ parts items load p finding h. inv.same parts items load p finding

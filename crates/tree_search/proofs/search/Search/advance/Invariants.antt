@@ -13,6 +13,8 @@ invariant-loop-made g l =
       goes_on : GoesOn l.problem first l.self;
       count : length l.self.nodes.items ≡ length first.nodes.items + l.made;
       within : l.made ≤ l.steps;
+      suits : (parts : Parts) (items : List Item) → judge.suits l.initial.judge parts items
+          → judge.suits l.judge parts items;
       bounds : judge.bound_of l.judge ≡ judge.bound_of l.initial.judge;
       same : (parts : Parts) (items : List Item) (load : Option ℕ) (p : List ℕ) (finding : Finding)
           → judge.finds l.judge parts items load p finding

@@ -1,0 +1,5 @@
+use Rattle.bandwidth_bound.proofs.PriceBound as laws
+use Rattle.bandwidth_bound.proofs.price_laws.bound_is_below.Goals as goal
+
+pub returns : goal.returns
+returns c = laws.bound_is_below

@@ -1,5 +1,0 @@
-use Rattle.bandwidth_bound.proofs.PriceBound as laws
-use Rattle.bandwidth_bound.proofs.price_laws.priced_is_more.Goals as goal
-
-pub returns : goal.returns
-returns c = laws.priced_is_more
