@@ -1,9 +1,12 @@
 pub mod Accepted
 pub mod Ended
 pub mod FewSenders
+pub mod Firsts
 pub mod Founds
 pub mod LeastLines
 pub mod OnePlan
+pub mod OnePlanOf
+pub mod OneSearch
 pub mod OpenFlat
 pub mod Orders
 pub mod Plans

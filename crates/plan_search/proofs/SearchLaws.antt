@@ -11,7 +11,7 @@ use Rattle.grouping_tree.specs.Partial.{IsPartial, options_of}
 use Rattle.grouping_tree.proofs.Fronts.{full-legal}
 use Rattle.grouping_tree.proofs.Puts.{options-legal}
 use Rattle.grouping_tree.proofs.Used.{partial-none}
-use Rattle.bandwidth_bound.specs.Goals.{FailsIn, main_goal}
+use Rattle.bandwidth_bound.specs.Goals.{FailsIn, eighths, main_goal, range_goal}
 use Rattle.bandwidth_bound.specs.Prices.{lower8_of}
 use Rattle.bandwidth_bound.specs.Solvable.{Solvable}
 use Rattle.bandwidth_bound.specs.Trees.{EachStands, Goal, TreeStands, open_places, open_places_each}
@@ -45,6 +45,47 @@ module _ (g : Goal) where
         All-append (IsPartial g.items) (open_places g.items (p ++ l ∷ []) t) (open_places_each g.items p ls ts)
         (places_partial (p ++ l ∷ []) t (All-head (λ l. IsPartial g.items (p ++ l ∷ [])) l ls legal) h.0)
         (each_partial p ls ts (All-tail (λ l. IsPartial g.items (p ++ l ∷ [])) l ls legal) h.1)
+
+module _ (problem : Parts) (stands : IsProblem problem) (shows : FindingsShow) (range : Option ℕ)
+    (values : List ℕ) where
+  -- the tree of a search over a range stands, where leaves may be open
+  abbrev TreeOf : Searched → Type 0
+  TreeOf x = TreeStands (range_goal problem range values (eighths x.best) true) [] x.tree
+
+  -- the place of a step is a partial grouping
+  pub place_partial : (x y : Searched)
+      (step : Step (Finds problem range values) (items_in problem.items range) [] x y) → TreeOf x
+      → IsPartial (items_in problem.items range) step.place
+  place_partial x y step h =
+      All-head (IsPartial (items_in problem.items range)) step.place step.rest
+      (subst (All (IsPartial (items_in problem.items range))) step.first
+      (places_partial (range_goal problem range values (eighths x.best) true) [] x.tree
+      (partial-none (items_in problem.items range)) h))
+
+  -- its tree stands
+  pub tree_step : (x y : Searched) → Step (Finds problem range values) (items_in problem.items range) [] x y
+      → TreeOf x → TreeOf y
+  tree_step x y step h =
+      let next =
+      step-stands (items_in problem.items range) (lower8_of problem values (items_in problem.items range))
+      (FailsIn problem range)
+      (λ best p finding. IsPartial (items_in problem.items range) p × Finds problem range values best p finding) []
+      (λ best p finding f. shows problem stands range values best p f.0 finding f.1) x y
+      (record {
+        place = step.place;
+        rest = step.rest;
+        first = step.first;
+        finding = step.finding;
+        finds = (place_partial x y step h, step.finds);
+        is = step.is;
+      }) h in
+      next.0
+
+  -- and so it does after some steps
+  pub tree_steps : (n : ℕ) (x y : Searched)
+      → Steps (Finds problem range values) (items_in problem.items range) [] n x y → TreeOf x → TreeOf y
+  tree_steps zero x y steps h = subst TreeOf (sym steps) h
+  tree_steps (suc n) x y steps h = tree_step steps.0 y steps.2 (tree_steps n x steps.0 steps.1 h)
 
 module _ (problem : Parts) (stands : IsProblem problem) (sorted : IsSorted problem.signals problem.items)
     (shows : FindingsShow) (values : List ℕ) (first : Option Found) where
@@ -80,23 +121,10 @@ module _ (problem : Parts) (stands : IsProblem problem) (sorted : IsSorted probl
   one_step : (x y : Searched) → Step (Finds problem None values) problem.items [] x y → IsAlong x → IsAlong y
   one_step x y step along =
       let partial : IsPartial problem.items step.place =
-      All-head (IsPartial problem.items) step.place step.rest (subst (All (IsPartial problem.items)) step.first
-      (places_partial (main_goal problem values x.best true) [] x.tree (partial-none problem.items) along.tree)) in
-      let next =
-      step-stands problem.items (lower8_of problem values problem.items) (FailsIn problem None)
-      (λ best p finding. IsPartial problem.items p × Finds problem None values best p finding) []
-      (λ best p finding h. shows problem stands None values best p h.0 finding h.1) x y
-      (record {
-        place = step.place;
-        rest = step.rest;
-        first = step.first;
-        finding = step.finding;
-        finds = (partial, step.finds);
-        is = step.is;
-      }) along.tree in
+      place_partial problem stands shows None values x y step along.tree in
       let after = found_along x.best step.place step.finding x.found partial step.finds along.found along.best in
       record {
-        tree = next.0;
+        tree = tree_step problem stands shows None values x y step along.tree;
         found = subst (λ (z : Searched). IfSome (last_found z.found first) (FoundStands problem)) (sym step.is) after.0;
         best = subst (λ (z : Searched). load_found (last_found z.found first) ≡ z.best) (sym step.is) after.1;
       }

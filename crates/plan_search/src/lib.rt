@@ -8,7 +8,7 @@
 mod alone;
 mod begin;
 mod ending;
-mod finish;
+mod finishing;
 mod laws;
 mod lines;
 mod planned;
@@ -17,6 +17,7 @@ mod searching;
 mod shown;
 
 pub use alone::{Alone, load_alone, plan_alone};
+pub use finishing::finish;
 pub use laws::{plan_alone_is_one, plan_is_one};
 pub use planned::Planned;
 pub use planning::plan;

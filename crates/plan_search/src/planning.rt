@@ -7,7 +7,7 @@ ghost use Rattle.plan_search.specs.Plan.{IsPlanOf, IsTrimmedPlan, IsWithin, cert
 use crate::begin::{Begun, begin};
 use crate::ending::end;
 use crate::planned::Planned;
-use crate::searching::{Ended, search_all};
+use crate::searching::{Ended, problem_stands, search_all};
 use pack_model::{Memory, Problem};
 use std::alloc::Global;
 
@@ -24,6 +24,7 @@ pub fn plan(alloc: Global, problem: &Problem, branches: u64) -> Result<Planned, 
     ensures within { IfOk result (IsWithin problem.now branches) }
     ensures fits { IfOk result (λ planned. CertFits (cert_of_plan planned)) }
 {
+    problem_stands(problem);
     let Begun {
         lemmas,
         values,

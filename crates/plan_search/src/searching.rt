@@ -1,5 +1,6 @@
 //! The search over all items.
 ghost use Rattle.std.specs.Prelude.{◌≡◌, ◌*◌, ◌^◌, ◌<◌, [], List, None, IfOk, IfSome};
+ghost use Rattle.pack_model.specs.Problem.{IsProblem, IsSorted};
 ghost use Rattle.cert_text.specs.PlainTree.{plain_of};
 ghost use Rattle.tree_search.specs.Shown.{IsAt, IsOf, items_of, start_of};
 ghost use Rattle.tree_search.specs.Step.{Searched};
@@ -25,8 +26,16 @@ pub(crate) struct Ended {
     pub tree: Tree,
 }
 
+/// The problem stands, and its items are those of its signals.
+pub(crate) fn problem_stands(problem: &Problem)
+    ensures problem { IsProblem problem.now }
+    ensures sorted { IsSorted problem.now.signals problem.now.items }
+{
+    let _items = problem.items();
+}
+
 /// The load of a grouping that may not be there.
-fn load_found(found: &Option<Found>) -> Option<u128>
+pub(crate) fn load_found(found: &Option<Found>) -> Option<u128>
     ensures { result ≡ load_found found.now }
 {
     match found {
@@ -86,6 +95,7 @@ pub(crate) fn search_all(
     requires { IfSome first (FoundStands problem.now) }
     ensures { IfOk result (IsEnded problem.now values.now first left) }
 {
+    problem_stands(problem);
     let mut judge = SearchJudge::new(alloc, problem, None, values)?;
     let partial = Partial::whole(alloc, problem)?;
     let mut search = Search::new(alloc, problem, partial, load_found(&first));

@@ -1,5 +1,5 @@
 //! The end of a plan whose main tree is given.
-ghost use Rattle.std.specs.Prelude.{◌≡◌, ◌*◌, ◌^◌, ◌<◌, [], ℕ, List, All, IfOk, IfSome, length, map};
+ghost use Rattle.std.specs.Prelude.{◌≡◌, ◌*◌, ◌^◌, ◌<◌, true, [], ℕ, List, All, IfOk, IfSome, length, map};
 ghost use Rattle.std.specs.List.{list_any};
 ghost use Rattle.cert_text.specs.PlainTree.{plain_lemma, plain_of};
 ghost use Rattle.cert_text.specs.Trees.{Plain};
@@ -10,15 +10,16 @@ ghost use Rattle.bandwidth_bound.specs.Rule.{Accepts};
 ghost use Rattle.bandwidth_bound.specs.Trees.{TreeStands};
 ghost use Rattle.tree_search.specs.Flat.{flat};
 ghost use Rattle.tree_search.specs.Open.{HasOptions};
-ghost use Rattle.plan_search.specs.Ending.{is_left};
+ghost use Rattle.plan_search.specs.Ending.{final_tree, is_left};
 ghost use Rattle.plan_search.specs.Plan.{Ends, FoundStands, IsTrimmedPlan, LemmaIsTrimmed, cert_of_plan, judged_plan, load_found, verdict_of_plan};
 ghost use Rattle.plan_search.specs.Searches.{trimmed};
 
 use crate::ending::end;
 use crate::planned::Planned;
+use crate::searching::{load_found, problem_stands};
 use cert_text::{Lemma, Tree};
 use grouping_tree::Partial;
-use pack_model::{Memory, Problem, Values};
+use pack_model::{Memory, Problem};
 use search_judge::SearchJudge;
 use std::alloc::Global;
 use tree_search::{Found, Node, flatten, tree_of, trim};
@@ -86,4 +87,62 @@ fn trimmed_nodes(
     let mut partial = Partial::whole(alloc, problem)?;
     let kept = trim(alloc, &judge, problem, &mut partial, nodes, 8 * load)?;
     Ok(kept)
+}
+
+/// The nodes of the tree that is written: trimmed, where no leaf is open and there is a best load. The only error is
+/// want of memory.
+fn final_nodes(
+    alloc: Global,
+    problem: &Problem,
+    lemmas: &[Lemma],
+    best: Option<u128>,
+    nodes: Vec<Node>,
+    is_open: bool,
+) -> Result<Vec<Node>, Memory>
+    requires low { IfSome best (λ load. 8 * load < 2 ^ 128) }
+    requires tree { (t : Plain) × (flat t ≡ nodes.items) × HasOptions problem.now.items [] t }
+    ensures { IfOk result (λ kept. (t : Plain) → flat t ≡ nodes.items → HasOptions problem.now.items [] t
+        → flat (final_tree problem.now (values_of problem.now (map plain_lemma lemmas.now)) best is_open t)
+        ≡ kept.items) }
+{
+    match best {
+        Some(load) if !is_open => {
+            let values = values_of(alloc, problem, lemmas)?;
+            let kept = trimmed_nodes(alloc, problem, &values, load, nodes)?;
+            Ok(kept)
+        }
+        _ => Ok(nodes),
+    }
+}
+
+/// Ends a plan with lemmas, the best grouping, if there is one, and the main tree: without an open leaf it is trimmed,
+/// and the answer is `Best`, or `NoSolution` where there is no best grouping; else the answer is `Spent`, with the tree
+/// as it stands. The only error is want of memory.
+pub fn finish(
+    alloc: Global,
+    problem: &Problem,
+    lemmas: Vec<Lemma>,
+    best: Option<Found>,
+    tree: Tree,
+) -> Result<Planned, Memory>
+    requires lemmas { LemmasStand problem.now (map plain_lemma lemmas.items) }
+    requires best { IfSome best (FoundStands problem.now) }
+    requires tree { TreeStands
+        (main_goal problem.now (values_of problem.now (map plain_lemma lemmas.items)) (load_found best) true) []
+        (plain_of tree) }
+    ensures ends { IfOk result (Ends problem.now (map plain_lemma lemmas.items) best (plain_of tree)) }
+    ensures accepted { IfOk result (λ planned. Accepts (judged_plan problem.now planned)
+        (verdict_of_plan problem.now planned)) }
+    ensures trimmed { All (LemmaIsTrimmed problem.now) (map plain_lemma lemmas.items)
+        → IfOk result (IsTrimmedPlan problem.now) }
+    ensures fits { IfOk result (λ planned. CertFits (cert_of_plan planned)) }
+{
+    problem_stands(problem);
+    let mut nodes = Vec::new(alloc);
+    flatten(tree, &mut nodes)?;
+    let is_open = any_left(&nodes);
+    let kept = final_nodes(alloc, problem, &lemmas, load_found(&best), nodes, is_open)?;
+    let last = tree_of(alloc, kept)?;
+    let planned = end(alloc, problem, lemmas, best, last, is_open)?;
+    Ok(planned)
 }
