@@ -14,4 +14,5 @@ pub mod Pushed
 pub mod SearchEnds
 pub mod SearchLaws
 pub mod TreeFits
+pub mod Values
 pub mod Within

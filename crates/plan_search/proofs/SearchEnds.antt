@@ -105,7 +105,6 @@ module _ (problem : Parts) (stands : IsProblem problem) (sorted : IsSorted probl
 pub judges_over : (problem : Parts) (values : List ℕ) (items : List Item) (judge : SearchJudge)
     → IsJudge problem None values judge → items ≡ problem.items → JudgesOver problem items judge
 judges_over problem values items judge is same = record {
-  never = ?;
   judge_is = subst (λ r. IsJudge problem r judge.values.items judge) (sym is.range_is)
       (subst (λ vs. IsJudge problem None vs judge) (sym is.values_are) is);
   items_are = same ∙ ap (items_in problem.items) (sym is.range_is);

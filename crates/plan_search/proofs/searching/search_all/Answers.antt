@@ -4,8 +4,10 @@ use Rattle.pack_model.specs.Problem.{Parts}
 use Rattle.cert_text.specs.Trees.{left}
 use Rattle.bandwidth_bound.specs.Loads.{LoadsFit}
 use Rattle.bandwidth_bound.specs.Prices.{lower8_of}
+use Rattle.bandwidth_bound.proofs.Loads.{loads_fit}
 use Rattle.search_judge.specs.Findings.{Finds}
 use Rattle.search_judge.specs.Laws.{FindingsShow}
+use Rattle.search_judge.proofs.Shows.{shows}
 use Rattle.tree_search.specs.declared.search.Search.{Search}
 use Rattle.tree_search.specs.Shown.{IsAt, items_of, start_of}
 use Rattle.tree_search.specs.Step.{Searched, Steps}
@@ -38,10 +40,10 @@ final_tree-requires-clause-tree c =
 
 -- the laws of the crates below
 the_fit : LoadsFit
-the_fit = ?
+the_fit problem stands items of p partial few = loads_fit problem stands items of p partial few
 
 the_shows : FindingsShow
-the_shows = ?
+the_shows problem stands range values best p partial = shows problem stands range values best p partial
 
 pub final_tree-requires-clause-low : goal.final_tree-requires-clause-low
 final_tree-requires-clause-low c =
