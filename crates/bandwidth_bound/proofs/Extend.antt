@@ -1,5 +1,5 @@
 -- As items are put, classes only extend: each is a harder frame, and no load falls.
-use Rattle.std.proofs.Common.{◌≡◌, ℕ, zero, suc, ◌+◌, ◌*◌, ◌/◌, ◌<◌, ◌≤◌, inl, inr, true, List, [], ◌∷◌, ◌++◌, length, drop, get_or, sum_by, All, Contains, sym, ap, subst, ◌∙◌, arith}
+use Rattle.std.proofs.Common.{◌≡◌, ℕ, zero, suc, ◌+◌, ◌*◌, ◌/◌, ◌<◌, ◌≤◌, inl, inr, true, List, ◌++◌, length, drop, get_or, sum_by, All, Contains, sym, ap, subst, ◌∙◌, arith}
 use Rattle.std.specs.List.{range_with_len}
 use Rattle.std.proofs.Math.Nat.{mul-le-mul}
 use Rattle.std.proofs.lemmas.Bool.{cases_lt}
@@ -102,7 +102,7 @@ class_harder problem stands items of p q partial further e label low =
     subst (λ ys. IsHarder (timed_of_items problem here) (timed_of_items problem ys)) (sym is) it
 
 -- a quotient never falls as the divisor falls
-div-rises : (a b c : ℕ) → 1 ≤ c → c ≤ b → a / b ≤ a / c
+pub div-rises : (a b c : ℕ) → 1 ≤ c → c ≤ b → a / b ≤ a / c
 div-rises a b c some le =
     elim (cases_lt (a / c) (a / b)) [
       | inl above ↦

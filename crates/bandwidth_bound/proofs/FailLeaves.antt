@@ -11,16 +11,17 @@ use Rattle.grouping_tree.proofs.Fronts.{front-legal, legal-partial}
 use Rattle.matrix_rows.specs.declared.matrix.MatrixRow.{MatrixRow}
 use Rattle.matrix_text.specs.Frames.{grouping_of}
 use Rattle.cert_text.specs.Trees.{Plain, Plains, bound, fail, inner, left, more, none}
-use Rattle.cert_text.specs.declared.parts.Kind.{Kind}
 use Rattle.cert_text.specs.declared.parts.Kind.TheVariants.{KindBest, KindNoSolution}
 use Rattle.bandwidth_bound.specs.Bounds.{Reaches}
 use Rattle.bandwidth_bound.specs.Covering.{ExtendsFailLeaf, FailLeavesRefuse, ReachesBest}
 use Rattle.bandwidth_bound.specs.Goals.{main_goal}
-use Rattle.bandwidth_bound.specs.Lemmas.{LemmasHold, StandingLemmasHold, values_of}
+use Rattle.bandwidth_bound.specs.Lemmas.{LemmasHold, values_of}
 use Rattle.bandwidth_bound.specs.PriceLaws.{BoundIsBelow}
-use Rattle.bandwidth_bound.specs.Rule.{Judged, MainStands, MatrixOfKind, RuleHolds, TreeOfKind, TreesStand, best_of}
+use Rattle.bandwidth_bound.specs.Rule.{Judged, MainStands, RuleHolds, TreesStand, best_of}
 use Rattle.bandwidth_bound.specs.Trees.{EachStands, Goal, Leaf, TreeStands, leaves, leaves_each}
 use Rattle.bandwidth_bound.proofs.Covers.{covers}
+use Rattle.bandwidth_bound.proofs.Standing.{matrix_of, trees_of}
+use Rattle.bandwidth_bound.proofs.StandingLemmas.{values_hold}
 use Rattle.bandwidth_bound.proofs.TreeClaims.{reaches-more, some_counted}
 
 -- ---- what the leaves show
@@ -98,8 +99,8 @@ module _ (goal : Goal) (closed : goal.may_leave ≡ false) (q : List ℕ) (legal
 module _ (below : BoundIsBelow) (problem : Parts) (stands : IsProblem problem) (values : List ℕ)
     (hold : LemmasHold problem values) where
   -- a legal grouping that doesn't reach the best extends a fail leaf of the main tree
-  main_leaf : (best : Option ℕ) (tree : Option Plain) → MainStands problem values best false tree → (q : List ℕ)
-      → IsLegal problem.items q → ¬ ReachesBest problem best q → ExtendsFailLeaf problem tree q
+  main_leaf : (best : Option ℕ) (tree : Option Plain) → MainStands problem values best false tree
+      → (q : List ℕ) → IsLegal problem.items q → ¬ ReachesBest problem best q → ExtendsFailLeaf problem tree q
   main_leaf best None h q legal short = absurd h
   main_leaf best (Some tree) h q legal short =
       let leaf =
@@ -129,30 +130,27 @@ module _ (below : BoundIsBelow) (problem : Parts) (stands : IsProblem problem) (
       → MainStands problem values (best_of problem rows) false tree → (q : List ℕ) → IsLegal problem.items q
       → ExtendsFailLeaf problem tree q
   each rows tree empty h q legal =
-      main_leaf None tree (subst (λ rows. MainStands problem values (best_of problem rows) false tree) empty h) q
-      legal (λ reached. reached)
+      main_leaf None tree
+      (subst (λ rows. MainStands problem values (best_of problem rows) false tree) empty h) q legal
+      (λ reached. reached)
 
-module _ (below : BoundIsBelow) (lemmas_hold : StandingLemmasHold) (judged : Judged)
-    (stands : IsProblem judged.problem) where
-  -- the values of its lemmas hold
-  values_hold : TreesStand judged.problem (best_of judged.problem judged.matrix) false judged.cert
-      → LemmasHold judged.problem (values_of judged.problem judged.cert.lemmas)
-  values_hold trees = lemmas_hold judged.problem stands judged.cert.lemmas trees.lemmas
+module _ (below : BoundIsBelow) (judged : Judged) (stands : IsProblem judged.problem) where
+  abbrev values : List ℕ
+  values = values_of judged.problem judged.cert.lemmas
+
+  hold : TreesStand judged.problem (best_of judged.problem judged.matrix) false judged.cert
+      → LemmasHold judged.problem values
+  hold trees =
+      values_hold below judged.problem stands (best_of judged.problem judged.matrix) false judged.cert trees
 
   pub fail_leaves_hold : RuleHolds judged → FailLeavesRefuse judged
   fail_leaves_hold rule = record {
     best = λ is q legal less.
-        let trees = of_kind KindBest is in
-        smaller below judged.problem stands (values_of judged.problem judged.cert.lemmas) (values_hold trees)
-        judged.matrix judged.cert.main_tree trees.main q legal less;
+        let trees = trees_of judged rule KindBest is in
+        smaller below judged.problem stands values (hold trees) judged.matrix judged.cert.main_tree trees.main
+        q legal less;
     no_solution = λ is q legal.
-        let trees = of_kind KindNoSolution is in
-        each below judged.problem stands (values_of judged.problem judged.cert.lemmas) (values_hold trees)
-        judged.matrix judged.cert.main_tree
-        (subst (λ kind. MatrixOfKind kind judged.problem judged.matrix) is rule.matrix) trees.main q legal;
+        let trees = trees_of judged rule KindNoSolution is in
+        each below judged.problem stands values (hold trees) judged.matrix judged.cert.main_tree
+        (matrix_of judged rule KindNoSolution is) trees.main q legal;
   }
-    where
-      of_kind : (kind : Kind) → judged.cert.kind ≡ kind
-          → TreeOfKind kind judged.problem judged.matrix judged.cert
-      of_kind kind is =
-          subst (λ kind. TreeOfKind kind judged.problem judged.matrix judged.cert) is rule.tree

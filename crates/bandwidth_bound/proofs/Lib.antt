@@ -4,6 +4,8 @@ pub mod FailLeaves
 pub mod Final
 pub mod FinalChecks
 pub mod FinalNamed
+pub mod FloorsItems
+pub mod FloorsRests
 pub mod Loads
 pub mod PriceBound
 pub mod PriceFloors

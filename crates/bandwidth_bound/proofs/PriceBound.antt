@@ -1,13 +1,16 @@
 -- The lower bound is below every completion, and the load where all items are placed.
-use Rattle.std.proofs.Common.{◌≡◌, ℕ, zero, suc, ◌+◌, ◌-◌, ◌*◌, ◌<◌, ◌≤◌, ◌^◌, ◌⊎◌, inl, inr, Bool, true, false, cond, List, [], ◌∷◌, ◌++◌, length, take, drop, map, nat_lt, sum_by, Option, None, Some, All, Contains, slice_index_or, refl, sym, ap, subst, ◌∙◌, arith, length-append, take-append-drop, length-take-le}
-use Rattle.std.specs.List.{flat_map, range_with_len}
+use Rattle.std.proofs.Common.{◌≡◌, ℕ, ◌+◌, ◌-◌, ◌*◌, ◌<◌, ◌≤◌, ◌^◌, ◌⊎◌, inl, inr, true, List, [], ◌∷◌, ◌++◌, length, take, drop, map, nat_lt, sum_by, Option, None, Some, All, Contains, slice_index_or, refl, sym, ap, subst, ◌∙◌, arith, length-append, take-append-drop, length-take-le}
+use Rattle.std.specs.List.{range_with_len}
+use Rattle.std.proofs.Math.Seq.{drop-append_seam}
 use Rattle.std.proofs.lemmas.Bool.{cases_eq}
-use Rattle.std.proofs.lemmas.List.{length-drop, take_all}
-use Rattle.std.proofs.lemmas.List.Elements.{All-append, All-cons, All-contains_itself, All-head, All-nil, All-tail, All-weaker}
+use Rattle.std.proofs.lemmas.List.{drop_all, take_all}
+use Rattle.std.proofs.lemmas.List.Elements.{All-contains_itself, All-filter, All-head, All-weaker}
 use Rattle.pack_model.specs.declared.item.Item.{Item}
 use Rattle.pack_model.specs.Problem.{Parts, IsProblem, items_in_order, senders_of, sent_by}
 use Rattle.pack_model.proofs.ItemFacts.{IsItemOf}
 use Rattle.pack_model.proofs.Laws.{tests}
+use Rattle.pack_model.proofs.OrderSteps.{all_numbered}
+use Rattle.pack_model.proofs.ProblemItems.{of_problem}
 use Rattle.class_frame.specs.Classes.{load_of}
 use Rattle.class_frame.specs.Frame.{load_of_items}
 use Rattle.class_frame.specs.Grouping.{class_of, classes_of}
@@ -25,7 +28,7 @@ use Rattle.bandwidth_bound.proofs.Extend.{are_items}
 use Rattle.bandwidth_bound.proofs.Loads.{loads_fit}
 use Rattle.bandwidth_bound.proofs.PriceFloors.{IsFloor, bound-below, item_at, joined, one-of-sender, over-joined, prices-floor}
 use Rattle.bandwidth_bound.proofs.PriceFrames.{joins, rises}
-use Rattle.bandwidth_bound.proofs.PriceItems.{AreBefore, are_before, before, before_front, by_groups, drop_front, groups_apart, groups_floor, placed_before, rises_sent, sent_all, sent_few, sent_is, sent_none, sent_other, sent_same, sum_eight, sum_groups, sum_none, sum_sent}
+use Rattle.bandwidth_bound.proofs.PriceItems.{AreBefore, are_before, before, before_front, by_groups, groups_apart, groups_floor, placed_before, rises_sent, sent_all, sent_few, sent_is, sent_none, sent_other, sent_same, sum_eight, sum_groups, sum_none, sum_sent}
 use Rattle.bandwidth_bound.proofs.PriceSums.{IsPriced, sum-zero}
 
 module _ (problem : Parts) (stands : IsProblem problem) where
@@ -67,20 +70,7 @@ module _ (problem : Parts) (stands : IsProblem problem) where
         (λ item. item.sender < a + (length problem.senders - a)) (λ item lt. omega (arith, lt)) items low)
 
     right_now : (a : ℕ) → All (IsItemOf problem.signals) (now a)
-    right_now a = kept items all
-      where
-        kept : (ys : List Item) → All (IsItemOf problem.signals) ys
-            → All (IsItemOf problem.signals) (before a ys)
-        kept [] all = All-nil (IsItemOf problem.signals)
-        kept (y ∷ ys) all =
-            by (nat_lt y.sender a) (kept ys (All-tail (IsItemOf problem.signals) y ys all))
-          where
-            by : (b : Bool) → All (IsItemOf problem.signals) (before a ys)
-                → All (IsItemOf problem.signals) (cond b (y ∷ before a ys) (before a ys))
-            by true ih =
-                All-cons (IsItemOf problem.signals) y (before a ys)
-                (All-head (IsItemOf problem.signals) y ys all) ih
-            by false ih = ih
+    right_now a = All-filter (λ item. nat_lt item.sender a) (IsItemOf problem.signals) items all
 
     -- what is placed comes first among those before the next sender
     now_is : (a : ℕ) → next_sender (sender_in_work items p) ≡ a
@@ -110,7 +100,7 @@ module _ (problem : Parts) (stands : IsProblem problem) where
     now_left a e =
         ap (drop (length p)) (now_is a e)
         ∙ ap (λ n. drop n (take (length p) items ++ before a (drop (length p) items))) (sym length_is)
-        ∙ drop_front (take (length p) items) (before a (drop (length p) items))
+        ∙ drop-append_seam (take (length p) items) (before a (drop (length p) items))
 
     module _ (lemmas : List ℕ) (hold : LemmasHold problem lemmas)
         (own : (s : ℕ) → (sent_by items s ≡ []) ⊎ (sent_by items s ≡ sent_by problem.items s)) where
@@ -238,21 +228,12 @@ module _ (problem : Parts) (stands : IsProblem problem) where
 senders_low : (problem : Parts) → IsProblem problem
     → All (λ item. item.sender < length problem.senders) problem.items
 senders_low problem stands =
-    let t = tests problem stands in
-    let n : ℕ = length (senders_of problem.signals) in
-    subst (λ m. All (λ item. item.sender < m) problem.items) (sym (ap length t.senders))
-    (subst (All (λ item. item.sender < n)) (sym t.items)
-    (by_low (items_in_order problem.signals) n 0 n (omega arith)))
-  where
-    by_low : (xs : List Item) (n a m : ℕ) → a + m ≤ n
-        → All (λ item. item.sender < n) (flat_map (sent_by xs) (range_with_len a m))
-    by_low xs n a zero le = All-nil (λ (item : Item). item.sender < n)
-    by_low xs n a (suc m) le =
-        All-append (λ (item : Item). item.sender < n) (sent_by xs a)
-        (flat_map (sent_by xs) (range_with_len (a + 1) m))
-        (All-weaker (λ (item : Item). item.sender ≡ a) (λ (item : Item). item.sender < n)
-        (λ item is. omega (arith, is, le)) (sent_by xs a) (sent_is a xs))
-        (by_low xs n (a + 1) m (omega (arith, le)))
+    let few : length problem.senders ≡ length (senders_of problem.signals) =
+    ap length (tests problem stands).senders in
+    of_problem problem stands (λ item. item.sender < length problem.senders)
+    (All-weaker (λ item. item.sender < length (senders_of problem.signals))
+    (λ item. item.sender < length problem.senders) (λ item low. omega (arith, few, low))
+    (items_in_order problem.signals) (all_numbered problem.signals))
 
 module _ (problem : Parts) (stands : IsProblem problem) where
   range_all : (P : Item → Type 0) → All P problem.items → (range : Option ℕ)
@@ -316,13 +297,7 @@ module _ (problem : Parts) (stands : IsProblem problem) where
     items = items_in problem.items range
 
     none_left : drop (length q) (items_in problem.items range) ≡ []
-    none_left =
-        empty (drop (length q) (items_in problem.items range))
-        (omega (arith, length-drop (length q) (items_in problem.items range), legal.grouping.each))
-      where
-        empty : (xs : List Item) → length xs ≡ 0 → xs ≡ []
-        empty [] e = refl
-        empty (x ∷ xs) e = absurd (omega (arith, e))
+    none_left = drop_all (length q) (items_in problem.items range) (omega (arith, legal.grouping.each))
 
     all_before : AreBefore (next_sender (sender_in_work (items_in problem.items range) q))
         (items_in problem.items range)

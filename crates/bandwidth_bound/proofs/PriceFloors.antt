@@ -38,15 +38,12 @@ class-within {X} k (l ∷ p) (x ∷ xs) ys le = by (nat_eq l k) (class-within k 
     by true ih = ap (λ zs. x ∷ zs) ih
     by false ih = ih
 
-sum-same : (g h : ℕ → ℕ) → ((k : ℕ) → g k ≡ h k) → (xs : List ℕ) → sum_by g xs ≡ sum_by h xs
-sum-same g h e [] = refl
-sum-same g h e (x ∷ xs) = omega (arith, sum_by-cons g x xs, sum_by-cons h x xs, e x, sum-same g h e xs)
-
+-- what is summed over classes of the first items is the same with more of them
 pub over-within : (f : List Item → ℕ) (p : List ℕ) (xs ys : List Item) → length p ≤ length xs
     → over_classes f (xs ++ ys) p ≡ over_classes f xs p
 over-within f p xs ys le =
-    sum-same (λ k. f (class_of k p (xs ++ ys))) (λ k. f (class_of k p xs))
-    (λ k. ap f (class-within k p xs ys le)) (range_with_len 0 (classes_of p))
+    ap (λ (g : ℕ → ℕ). sum_by g (range_with_len 0 (classes_of p)))
+    (λ i k. f (class-within k p xs ys le i))
 
 pub over-joined : (f : List Item → ℕ) (p : List ℕ) (now : List Item) (later : List (List Item))
     → length p ≤ length now → over_classes f (joined now later) p ≡ over_classes f now p

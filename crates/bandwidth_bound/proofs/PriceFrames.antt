@@ -1,9 +1,8 @@
 -- As items join a class it costs no less than it did with their prices, less its slack.
-use Rattle.std.proofs.Common.{◌≡◌, ℕ, ◌+◌, ◌-◌, ◌*◌, ◌/◌, ◌≤◌, ◌||◌, inl, inr, Bool, true, false, if◌then◌else◌, List, [], ◌∷◌, ◌++◌, length, map, fold, min, sum_by, All, unwrap_or, refl, ap, subst, ◌∙◌, arith}
+use Rattle.std.proofs.Common.{◌≡◌, ℕ, ◌+◌, ◌-◌, ◌*◌, ◌/◌, ◌≤◌, ◌||◌, Bool, true, false, if◌then◌else◌, List, [], ◌∷◌, ◌++◌, length, map, fold, min, sum_by, All, unwrap_or, refl, ap, subst, ◌∙◌, arith}
 use Rattle.std.specs.List.{list_any}
 use Rattle.std.specs.Int.{div_ceil}
 use Rattle.std.proofs.Math.Nat.{mul-le-mul, mul-le-mul_left, mul-le-mul_right}
-use Rattle.std.proofs.lemmas.Bool.{cases_lt}
 use Rattle.std.proofs.lemmas.Grind.{div_ceil_times}
 use Rattle.std.proofs.lemmas.List.{map-append, length-map}
 use Rattle.std.proofs.lemmas.List.Elements.{All-nil, All-cons, All-head, All-tail, All-weaker}
@@ -27,7 +26,7 @@ use Rattle.class_frame.proofs.Used.{items_have_signal}
 use Rattle.grouping_tree.specs.Slack.{slack_of}
 use Rattle.bandwidth_bound.specs.Laws.{AreOf}
 use Rattle.bandwidth_bound.specs.Prices.{price_of, prices_of}
-use Rattle.bandwidth_bound.proofs.Extend.{are_items}
+use Rattle.bandwidth_bound.proofs.Extend.{are_items, div-rises}
 
 -- the inequality over plain numbers: the ticks of a data bit, and of a class and a larger one the sizes,
 -- weights, rates and lengths
@@ -145,16 +144,6 @@ pub all_back : {X : Type 0} (P : X → Type 0) (xs ys : List X) → All P (xs ++
 all_back P [] ys all = all
 all_back P (x ∷ xs) ys all = all_back P xs ys (All-tail P x (xs ++ ys) all)
 
--- a quotient never falls as the divisor falls
-div_rises : (a b c : ℕ) → 1 ≤ c → c ≤ b → a / b ≤ a / c
-div_rises a b c some le =
-    elim (cases_lt (a / c) (a / b)) [
-      | inl above ↦
-          let most : c * (a / c + 1) ≤ b * (a / b) = mul-le-mul le (omega (arith, above)) in
-          absurd (omega (arith, most))
-      | inr below ↦ below
-    ]
-
 div_none : (a b : ℕ) → a / (b * 0) ≡ 0
 div_none a b = omega arith
 
@@ -216,7 +205,7 @@ module _ (problem : Parts) (stands : IsProblem problem) where
       items_have_signal problem (x ∷ xs) (omega arith)
       (all_front (IsItemOf problem.signals) (x ∷ xs) ys all) in
       let it = more_is_harder problem (x ∷ xs) ys stands some small in
-      div_rises problem.hyper (period_of_items problem (x ∷ xs)) (period_of_items problem ((x ∷ xs) ++ ys))
+      div-rises problem.hyper (period_of_items problem (x ∷ xs)) (period_of_items problem ((x ∷ xs) ++ ys))
       it.some_period it.period
 
   -- and no less often than each of its items would be
@@ -235,7 +224,7 @@ module _ (problem : Parts) (stands : IsProblem problem) where
       (subst (All (λ period. low ≤ period)) split (least_each (periods (xs ++ ys)))) in
       All-weaker (λ item. low ≤ least (periods (item ∷ [])))
       (λ item. rate_of (item ∷ []) ≤ rate_of (xs ++ ys))
-      (λ item le. div_rises problem.hyper (period_of_items problem (item ∷ []))
+      (λ item le. div-rises problem.hyper (period_of_items problem (item ∷ []))
       (period_of_items problem (xs ++ ys)) range.some_period
       (mul-le-mul_left problem.network.ticks_per_us le)) ys
       (each_period low ys below (all_back (IsItemOf problem.signals) xs ys all))

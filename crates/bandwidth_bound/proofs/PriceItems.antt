@@ -1,9 +1,10 @@
 -- Items by sender: those before a sender, those of each sender from it on, and those placed.
-use Rattle.std.proofs.Common.{◌≡◌, ℕ, zero, suc, ◌+◌, ◌*◌, ◌<◌, ◌≤◌, ◌⊎◌, inl, inr, Bool, true, false, cond, if◌then◌else◌, List, [], ◌∷◌, ◌++◌, length, drop, map, filter, nat_eq, nat_lt, sum_by, All, refl, sym, ap, subst, ◌∙◌, arith}
+use Rattle.std.proofs.Common.{◌≡◌, ℕ, zero, suc, ◌+◌, ◌*◌, ◌<◌, ◌≤◌, ◌⊎◌, inl, inr, Bool, true, false, cond, if◌then◌else◌, List, [], ◌∷◌, ◌++◌, length, map, filter, nat_eq, nat_lt, sum_by, All, refl, sym, ap, subst, ◌∙◌, arith}
 use Rattle.std.specs.List.{range_with_len}
-use Rattle.std.proofs.lemmas.Bool.{cases_eq, cases_lt, eqb-true, eq-eqb, ne_eqb, lt-ltb, le-ltb}
-use Rattle.std.proofs.lemmas.List.Elements.{All-append, All-cons, All-head, All-nil, All-tail, All-weaker}
-use Rattle.std.proofs.lemmas.List.Sums.{sum_by-cons}
+use Rattle.std.proofs.lemmas.Bool.{cases_eq, cases_lt, eqb-true, eq-eqb, ne_eqb, lt-ltb, le-ltb, ltb-true}
+use Rattle.std.proofs.lemmas.List.Elements.{All-append, All-cons, All-filter, All-head, All-nil, All-tail, All-weaker, filter-append, filter_passes}
+use Rattle.std.proofs.lemmas.List.Folds.{fold-map}
+use Rattle.std.proofs.lemmas.List.Sums.{count_by-le-length, length-filter, sum_by-cons}
 use Rattle.pack_model.specs.declared.item.Item.{Item}
 use Rattle.pack_model.specs.Problem.{sent_by}
 use Rattle.class_frame.specs.Legal.{IsLegal}
@@ -20,64 +21,55 @@ before first items = filter (λ item. nat_lt item.sender first) items
 abbrev pub AreBefore : ℕ → List Item → Type 0
 AreBefore first items = All (λ item. item.sender < first) items
 
+-- a filter keeps elements that all pass, and none of those that all fail
+filter_kept : {X : Type 0} (p : X → Bool) (xs : List X) → All (λ x. p x ≡ true) xs → filter p xs ≡ xs
+filter_kept p [] all = refl
+filter_kept p (x ∷ xs) all =
+    rw (All-head (λ x. p x ≡ true) x xs all)
+    (ap (λ zs. x ∷ zs) (filter_kept p xs (All-tail (λ x. p x ≡ true) x xs all)))
+
+filter_gone : {X : Type 0} (p : X → Bool) (xs : List X) → All (λ x. p x ≡ false) xs → filter p xs ≡ []
+filter_gone p [] all = refl
+filter_gone p (x ∷ xs) all =
+    rw (All-head (λ x. p x ≡ false) x xs all) (filter_gone p xs (All-tail (λ x. p x ≡ false) x xs all))
+
 -- what holds of all items holds of those of a sender
 pub sent_all : (P : Item → Type 0) (s : ℕ) (ys : List Item) → All P ys → All P (sent_by ys s)
-sent_all P s [] all = All-nil P
-sent_all P s (y ∷ ys) all = by (nat_eq y.sender s) (sent_all P s ys (All-tail P y ys all))
-  where
-    by : (b : Bool) → All P (sent_by ys s) → All P (cond b (y ∷ sent_by ys s) (sent_by ys s))
-    by true ih = All-cons P y (sent_by ys s) (All-head P y ys all) ih
-    by false ih = ih
+sent_all P s ys all = All-filter (λ item. nat_eq item.sender s) P ys all
 
 -- they have that sender
 pub sent_is : (s : ℕ) (ys : List Item) → All (λ item. item.sender ≡ s) (sent_by ys s)
-sent_is s [] = All-nil (λ (item : Item). item.sender ≡ s)
-sent_is s (y ∷ ys) = by (nat_eq y.sender s) refl (sent_is s ys)
-  where
-    by : (b : Bool) → nat_eq y.sender s ≡ b → All (λ item. item.sender ≡ s) (sent_by ys s)
-        → All (λ item. item.sender ≡ s) (cond b (y ∷ sent_by ys s) (sent_by ys s))
-    by true e ih =
-        All-cons (λ (item : Item). item.sender ≡ s) y (sent_by ys s) (eqb-true y.sender s e) ih
-    by false e ih = ih
+sent_is s ys =
+    All-weaker (λ (item : Item). nat_eq item.sender s ≡ true) (λ item. item.sender ≡ s)
+    (λ item e. eqb-true item.sender s e) (sent_by ys s) (filter_passes (λ item. nat_eq item.sender s) ys)
 
 -- and there are no more of them
 pub sent_few : (s : ℕ) (ys : List Item) → length (sent_by ys s) ≤ length ys
-sent_few s [] = omega arith
-sent_few s (y ∷ ys) = by (nat_eq y.sender s) (sent_few s ys)
-  where
-    by : (b : Bool) → length (sent_by ys s) ≤ length ys
-        → length (cond b (y ∷ sent_by ys s) (sent_by ys s)) ≤ length (y ∷ ys)
-    by true ih = omega arith
-    by false ih = omega arith
+sent_few s ys =
+    omega (
+      arith,
+      length-filter (λ (item : Item). nat_eq item.sender s) ys,
+      count_by-le-length (λ (item : Item). nat_eq item.sender s) ys,
+    )
 
 -- of a sender's items all are of that sender, and none of another
 pub sent_same : (s : ℕ) (ys : List Item) → sent_by (sent_by ys s) s ≡ sent_by ys s
-sent_same s [] = refl
-sent_same s (y ∷ ys) = by (nat_eq y.sender s) refl (sent_same s ys)
-  where
-    by : (b : Bool) → nat_eq y.sender s ≡ b → sent_by (sent_by ys s) s ≡ sent_by ys s
-        → sent_by (cond b (y ∷ sent_by ys s) (sent_by ys s)) s ≡ cond b (y ∷ sent_by ys s) (sent_by ys s)
-    by true e ih = rw e (ap (λ (zs : List Item). y ∷ zs) ih)
-    by false e ih = ih
+sent_same s ys =
+    filter_kept (λ item. nat_eq item.sender s) (sent_by ys s)
+    (filter_passes (λ item. nat_eq item.sender s) ys)
 
 pub sent_other : (s k : ℕ) (ys : List Item) → (k ≡ s → ⊥) → sent_by (sent_by ys s) k ≡ []
-sent_other s k [] ne = refl
-sent_other s k (y ∷ ys) ne = by (nat_eq y.sender s) refl (sent_other s k ys ne)
-  where
-    by : (b : Bool) → nat_eq y.sender s ≡ b → sent_by (sent_by ys s) k ≡ []
-        → sent_by (cond b (y ∷ sent_by ys s) (sent_by ys s)) k ≡ []
-    by true e ih =
-        let same : y.sender ≡ s = eqb-true y.sender s e in
-        rw (ne_eqb y.sender k (λ is. ne (sym is ∙ same))) ih
-    by false e ih = ih
+sent_other s k ys ne =
+    filter_gone (λ item. nat_eq item.sender k) (sent_by ys s)
+    (All-weaker (λ (item : Item). item.sender ≡ s) (λ item. nat_eq item.sender k ≡ false)
+    (λ item is. ne_eqb item.sender k (λ e. ne (sym e ∙ is))) (sent_by ys s) (sent_is s ys))
 
 -- items before a sender have none of its items
 pub sent_none : (first s : ℕ) (ys : List Item) → AreBefore first ys → first ≤ s → sent_by ys s ≡ []
-sent_none first s [] all le = refl
-sent_none first s (y ∷ ys) all le =
-    let low : y.sender < first = All-head (λ item. item.sender < first) y ys all in
-    rw (ne_eqb y.sender s (λ is. omega arith))
-    (sent_none first s ys (All-tail (λ item. item.sender < first) y ys all) le)
+sent_none first s ys all le =
+    filter_gone (λ item. nat_eq item.sender s) ys
+    (All-weaker (λ (item : Item). item.sender < first) (λ item. nat_eq item.sender s ≡ false)
+    (λ item low. ne_eqb item.sender s (λ is. omega (arith, low, is, le))) ys all)
 
 -- items that rise by sender
 
@@ -139,19 +131,16 @@ before_more n low (y ∷ ys) up = by (cases_lt y.sender n) (before_more n y.send
 
 -- items of senders before one are all before it
 pub before_all : (n : ℕ) (ys : List Item) → AreBefore n ys → before n ys ≡ ys
-before_all n [] all = refl
-before_all n (y ∷ ys) all =
-    rw (lt-ltb y.sender n (All-head (λ item. item.sender < n) y ys all))
-    (ap (λ (zs : List Item). y ∷ zs) (before_all n ys (All-tail (λ item. item.sender < n) y ys all)))
+before_all n ys all =
+    filter_kept (λ item. nat_lt item.sender n) ys
+    (All-weaker (λ (item : Item). item.sender < n) (λ item. nat_lt item.sender n ≡ true)
+    (λ item lt. lt-ltb item.sender n lt) ys all)
 
 -- and those before it are of senders before it
 pub are_before : (n : ℕ) (ys : List Item) → AreBefore n (before n ys)
-are_before n [] = All-nil (λ item. item.sender < n)
-are_before n (y ∷ ys) = by (cases_lt y.sender n) (are_before n ys)
-  where
-    by : (y.sender < n) ⊎ (n ≤ y.sender) → AreBefore n (before n ys) → AreBefore n (before n (y ∷ ys))
-    by (inl lt) ih = rw (lt-ltb y.sender n lt) (All-cons (λ item. item.sender < n) y (before n ys) lt ih)
-    by (inr ge) ih = rw (le-ltb y.sender n ge) ih
+are_before n ys =
+    All-weaker (λ (item : Item). nat_lt item.sender n ≡ true) (λ item. item.sender < n)
+    (λ item e. ltb-true item.sender n e) (before n ys) (filter_passes (λ item. nat_lt item.sender n) ys)
 
 -- items by sender are those before a sender, and those of each sender from it on
 pub by_groups : (ys : List Item) (low a m : ℕ) → Rises low ys → AreBefore (a + m) ys
@@ -189,14 +178,7 @@ groups_floor cost floor ys each a (suc m) = (each a, groups_floor cost floor ys 
 -- a sum over the items of each sender
 pub sum_groups : (floor : List Item → ℕ) (g : ℕ → List Item) (xs : List ℕ)
     → sum_by floor (map g xs) ≡ sum_by (λ x. floor (g x)) xs
-sum_groups floor g [] = refl
-sum_groups floor g (x ∷ xs) =
-    omega (
-      arith,
-      sum_by-cons floor (g x) (map g xs),
-      sum_by-cons (λ x. floor (g x)) x xs,
-      sum_groups floor g xs,
-    )
+sum_groups floor g xs = fold-map (λ (a : ℕ) (group : List Item). a + floor group) g 0 xs
 
 -- the items placed, and those left
 
@@ -216,16 +198,8 @@ placed_before low (x ∷ y ∷ xs) ys up =
 
 -- they come first among those before it
 pub before_front : (n : ℕ) (xs ys : List Item) → AreBefore n xs → before n (xs ++ ys) ≡ xs ++ before n ys
-before_front n [] ys all = refl
-before_front n (x ∷ xs) ys all =
-    rw (lt-ltb x.sender n (All-head (λ item. item.sender < n) x xs all))
-    (ap (λ (zs : List Item). x ∷ zs) (before_front n xs ys (All-tail (λ item. item.sender < n) x xs all)))
-
--- what is left after a front
-pub drop_front : (xs ys : List Item) → drop (length xs) (xs ++ ys) ≡ ys
-drop_front [] [] = refl
-drop_front [] (y ∷ ys) = refl
-drop_front (x ∷ xs) ys = drop_front xs ys
+before_front n xs ys all =
+    filter-append (λ item. nat_lt item.sender n) xs ys ∙ ap (λ zs. zs ++ before n ys) (before_all n xs all)
 
 -- the prices of a sender's items
 pub sum_sent : (f : Item → ℕ) (s : ℕ) (ys : List Item)

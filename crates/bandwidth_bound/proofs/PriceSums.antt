@@ -9,6 +9,7 @@ use Rattle.pack_model.specs.declared.item.Item.{Item}
 use Rattle.class_frame.specs.Grouping.{class_of, classes_of}
 use Rattle.class_frame.specs.Legal.{ClassStands, IsLegal}
 use Rattle.class_frame.proofs.GroupingLaws.{All-class_of, sum_by-classes}
+use Rattle.bus_run.proofs.Numbers.{sum_by-plus}
 use Rattle.grouping_tree.specs.Partial.{begins}
 use Rattle.grouping_tree.specs.Slack.{over_classes}
 use Rattle.grouping_tree.proofs.Classes.{class-append}
@@ -21,18 +22,6 @@ use Rattle.bandwidth_bound.proofs.PriceSplits.{classes-append, range-split, sum-
 abbrev pub IsPriced : (Item → Type 0) → (List Item → ℕ) → (List Item → ℕ) → (Item → ℕ) → Type 0
 IsPriced Right cost slack price = (xs ys : List Item) → ClassStands (xs ++ ys) → All Right (xs ++ ys)
     → cost xs + sum_by price ys ≤ cost (xs ++ ys) + slack xs
-
-sum-both : {X : Type 0} (f g : X → ℕ) (xs : List X)
-    → sum_by (λ x. f x + g x) xs ≡ sum_by f xs + sum_by g xs
-sum-both f g [] = omega arith
-sum-both f g (x ∷ xs) =
-    omega (
-      arith,
-      sum_by-cons (λ x. f x + g x) x xs,
-      sum_by-cons f x xs,
-      sum_by-cons g x xs,
-      sum-both f g xs,
-    )
 
 pub sum-zero : {X : Type 0} (xs : List X) → sum_by (λ (x : X). 0) xs ≡ 0
 sum-zero [] = refl
@@ -117,9 +106,10 @@ prices-within Right cost slack price one none items p q right whole e =
           arith,
           sum_by-le-sum_by (λ label. cost (class_of label p items) + sum_by price (class_of label r rest))
               (λ label. cost (class_of label q items) + slack (class_of label p items)) order each,
-          sum-both (λ label. cost (class_of label p items))
+          sum_by-plus (λ label. cost (class_of label p items))
               (λ label. sum_by price (class_of label r rest)) order,
-          sum-both (λ label. cost (class_of label q items)) (λ label. slack (class_of label p items)) order,
+          sum_by-plus (λ label. cost (class_of label q items))
+              (λ label. slack (class_of label p items)) order,
           prices,
           costs,
           slacks,

@@ -14,12 +14,13 @@ use Rattle.bandwidth_bound.specs.Covering.{ReachesBest, TreesShow, extends_some}
 use Rattle.bandwidth_bound.specs.Follows.{EachReaches, NoneIsBetter, NoneIsSolvable}
 use Rattle.bandwidth_bound.specs.Goals.{main_goal}
 use Rattle.bandwidth_bound.specs.Laws.{FailingIsFinal}
-use Rattle.bandwidth_bound.specs.Lemmas.{LemmasHold, StandingLemmasHold, values_of}
+use Rattle.bandwidth_bound.specs.Lemmas.{LemmasHold, values_of}
 use Rattle.bandwidth_bound.specs.PriceLaws.{BoundIsBelow}
 use Rattle.bandwidth_bound.specs.Prices.{lower8_of}
 use Rattle.bandwidth_bound.specs.Rule.{Judged, MainStands, MatrixOfKind, RuleHolds, TreeOfKind, TreesStand, best_of, least_open, lower_of, open_of}
 use Rattle.bandwidth_bound.specs.Solvable.{Solvable}
 use Rattle.bandwidth_bound.specs.Trees.{TreeStands, open_places}
+use Rattle.bandwidth_bound.proofs.StandingLemmas.{values_hold}
 use Rattle.bandwidth_bound.proofs.TreeClaims.{claim, none_open}
 
 -- ---- the least of some numbers
@@ -48,6 +49,20 @@ module _ (f : List ℕ → ℕ) (q : List ℕ) (n : ℕ) (each : (p : List ℕ) 
           → fold min (f p) (map f places) ≤ n
       by true here any = least_from (f p) places (inl (each p here))
       by false here any = least_from (f p) places (inr any)
+
+-- ---- the rule by kind
+
+-- the trees of a certificate of the kind stand
+pub trees_of : (judged : Judged) → RuleHolds judged → (kind : Kind) → judged.cert.kind ≡ kind
+    → TreeOfKind kind judged.problem judged.matrix judged.cert
+trees_of judged rule kind is =
+    subst (λ kind. TreeOfKind kind judged.problem judged.matrix judged.cert) is rule.tree
+
+-- the matrix is one of the kind
+pub matrix_of : (judged : Judged) → RuleHolds judged → (kind : Kind) → judged.cert.kind ≡ kind
+    → MatrixOfKind kind judged.problem judged.matrix
+matrix_of judged rule kind is =
+    subst (λ kind. MatrixOfKind kind judged.problem judged.matrix) is rule.matrix
 
 -- ---- the main tree
 
@@ -81,8 +96,8 @@ module _ (below : BoundIsBelow) (final : FailingIsFinal) where
     main_closed best (Some tree) h = none_open (main_goal problem values best false) refl [] tree h
 
     -- without open leaves it has at least the best's load
-    reached : (best : Option ℕ) (tree : Option Plain) → MainStands problem values best false tree → (q : List ℕ)
-        → Solvable problem q → ReachesBest problem best q
+    reached : (best : Option ℕ) (tree : Option Plain) → MainStands problem values best false tree
+        → (q : List ℕ) → Solvable problem q → ReachesBest problem best q
     reached best tree h q solvable = elim (main_claims best false tree h q solvable) [
       | inl it ↦ it
       | inr some ↦ absurd (
@@ -104,8 +119,8 @@ module _ (below : BoundIsBelow) (final : FailingIsFinal) where
     none_solvable : (rows : List MatrixRow) (tree : Option Plain) → rows ≡ []
         → MainStands problem values (best_of problem rows) false tree → NoneIsSolvable problem
     none_solvable rows tree empty h q solvable =
-        reached None tree (subst (λ rows. MainStands problem values (best_of problem rows) false tree) empty h) q
-        solvable
+        reached None tree
+        (subst (λ rows. MainStands problem values (best_of problem rows) false tree) empty h) q solvable
 
     -- the least bound at open places is below
     open_below : (tree : Option Plain) (q : List ℕ) → Solvable problem q
@@ -131,34 +146,28 @@ module _ (below : BoundIsBelow) (final : FailingIsFinal) where
 
   -- ---- the certificate
 
-  module _ (lemmas_hold : StandingLemmasHold) (judged : Judged) (stands : IsProblem judged.problem) where
-    -- the values of its lemmas hold
-    values_hold : (best : Option ℕ) (may_leave : Bool)
-        → TreesStand judged.problem best may_leave judged.cert
-        → LemmasHold judged.problem (values_of judged.problem judged.cert.lemmas)
-    values_hold best may_leave trees = lemmas_hold judged.problem stands judged.cert.lemmas trees.lemmas
+  module _ (judged : Judged) (stands : IsProblem judged.problem) where
+    abbrev values : List ℕ
+    values = values_of judged.problem judged.cert.lemmas
+
+    abbrev best : Option ℕ
+    best = best_of judged.problem judged.matrix
+
+    hold : (may_leave : Bool) → TreesStand judged.problem best may_leave judged.cert
+        → LemmasHold judged.problem values
+    hold may_leave trees = values_hold below judged.problem stands best may_leave judged.cert trees
 
     pub trees_hold : RuleHolds judged → TreesShow judged
     trees_hold rule = record {
       best = λ is.
-          let trees = of_kind KindBest is in
-          none_better judged.problem stands (values_of judged.problem judged.cert.lemmas)
-          (values_hold (best_of judged.problem judged.matrix) false trees) judged.matrix
-          judged.cert.main_tree trees.main;
+          let trees = trees_of judged rule KindBest is in
+          none_better judged.problem stands values (hold false trees) judged.matrix judged.cert.main_tree
+          trees.main;
       no_solution = λ is.
-          let trees = of_kind KindNoSolution is in
-          none_solvable judged.problem stands (values_of judged.problem judged.cert.lemmas)
-          (values_hold (best_of judged.problem judged.matrix) false trees) judged.matrix
-          judged.cert.main_tree
-          (subst (λ kind. MatrixOfKind kind judged.problem judged.matrix) is rule.matrix) trees.main;
+          let trees = trees_of judged rule KindNoSolution is in
+          none_solvable judged.problem stands values (hold false trees) judged.matrix judged.cert.main_tree
+          (matrix_of judged rule KindNoSolution is) trees.main;
       between = λ is.
-          let trees = (of_kind KindBetween is).0 in
-          each_reaches judged.problem stands (values_of judged.problem judged.cert.lemmas)
-          (values_hold (best_of judged.problem judged.matrix) true trees)
-          (best_of judged.problem judged.matrix) judged.cert.main_tree trees.main;
+          let trees = (trees_of judged rule KindBetween is).0 in
+          each_reaches judged.problem stands values (hold true trees) best judged.cert.main_tree trees.main;
     }
-      where
-        of_kind : (kind : Kind) → judged.cert.kind ≡ kind
-            → TreeOfKind kind judged.problem judged.matrix judged.cert
-        of_kind kind is =
-            subst (λ kind. TreeOfKind kind judged.problem judged.matrix judged.cert) is rule.tree

@@ -1,17 +1,19 @@
--- The values of lemmas that stand are at most 8 times the load of every legal grouping of their sender's items.
-use Rattle.std.proofs.Common.{◌≡◌, ℕ, ◌*◌, ◌≤◌, ◌==◌, inl, inr, Bool, true, false, if◌then◌else◌, List, [], ◌∷◌, length, All, slice_index_or, Some, refl, sym, subst, arith}
+-- The values of lemmas that stand are at most 8 times the load of every legal grouping of their sender's
+-- items.
+use Rattle.std.proofs.Common.{◌≡◌, ℕ, ◌*◌, ◌≤◌, ◌==◌, inl, inr, Bool, true, false, if◌then◌else◌, List, [], ◌∷◌, length, All, slice_index_or, Option, Some, refl, sym, subst, arith}
 use Rattle.std.proofs.lemmas.Bool.{eqb-true}
 use Rattle.std.proofs.lemmas.List.Elements.{All-head, All-tail}
 use Rattle.std.proofs.lemmas.List.FromFn.{get_or-map-range_with_len}
 use Rattle.pack_model.specs.Problem.{Parts, IsProblem, sent_by}
 use Rattle.class_frame.specs.Classes.{load_of}
 use Rattle.class_frame.specs.Legal.{IsLegal}
-use Rattle.cert_text.specs.Parts.{LemmaOf}
+use Rattle.cert_text.specs.Parts.{CertParts, LemmaOf}
 use Rattle.cert_text.specs.Trees.{Plain}
 use Rattle.bandwidth_bound.specs.Covering.{extends_some}
 use Rattle.bandwidth_bound.specs.Goals.{lemma_goal}
 use Rattle.bandwidth_bound.specs.Lemmas.{LemmaStands, LemmasHold, StandingLemmasHold, value_of, values_of}
 use Rattle.bandwidth_bound.specs.PriceLaws.{BoundIsBelow}
+use Rattle.bandwidth_bound.specs.Rule.{TreesStand}
 use Rattle.bandwidth_bound.specs.Trees.{TreeStands}
 use Rattle.bandwidth_bound.proofs.TreeClaims.{claim, none_open}
 
@@ -63,3 +65,10 @@ standing_lemmas_hold below problem stands lemmas stand sender low q legal =
     get_or-map-range_with_len (value_of lemmas) 0 (length problem.senders) sender sender 0 low (omega arith)
     in
     omega (arith, value, value_holds below problem stands lemmas stand.each sender q legal)
+
+-- so hold the values of a certificate's lemmas, where its trees stand
+pub values_hold : BoundIsBelow → (problem : Parts) → IsProblem problem → (best : Option ℕ)
+    (may_leave : Bool) (cert : CertParts) → TreesStand problem best may_leave cert
+    → LemmasHold problem (values_of problem cert.lemmas)
+values_hold below problem stands best may_leave cert trees =
+    standing_lemmas_hold below problem stands cert.lemmas trees.lemmas

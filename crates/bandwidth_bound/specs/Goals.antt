@@ -1,4 +1,5 @@
--- What trees are to show of the groupings of a problem's items, all of them or one sender's: the project's own.
+-- What trees are to show of the groupings of a problem's items, all of them or one sender's: the project's
+-- own.
 use Rattle.std.specs.Prelude.{ℕ, ◌*◌, Bool, false, List, [], Option, None, Some}
 use Rattle.std.specs.Option.{option_map}
 use Rattle.pack_model.specs.Problem.{Parts}

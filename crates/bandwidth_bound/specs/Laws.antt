@@ -1,5 +1,5 @@
 -- Laws of partial groupings as items are put: no load falls, and a failing set stays one. The project's own.
-use Rattle.std.specs.Prelude.{◌≡◌, ◌≤◌, ◌*◌, ◌++◌, ℕ, true, List, length, All, Contains}
+use Rattle.std.specs.Prelude.{◌≡◌, ◌≤◌, ◌++◌, ℕ, true, List, length, All, Contains}
 use Rattle.pack_model.specs.declared.item.Item.{Item}
 use Rattle.pack_model.specs.Problem.{Parts, IsProblem}
 use Rattle.busy_period.specs.declared.timed.Timed.{Timed}

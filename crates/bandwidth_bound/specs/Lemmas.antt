@@ -1,6 +1,6 @@
 -- Lemmas: what the frames of one sender load at least, each shown by a tree over its groupings. The project's
 -- own.
-use Rattle.std.specs.Prelude.{ℕ, ◌≡◌, ◌≤◌, ◌<◌, ◌*◌, ◌==◌, List, [], ◌∷◌, length, map, All, slice_index_or, if◌then◌else◌}
+use Rattle.std.specs.Prelude.{ℕ, ◌≤◌, ◌<◌, ◌*◌, ◌==◌, List, [], ◌∷◌, length, map, All, slice_index_or, if◌then◌else◌}
 use Rattle.std.specs.List.{range_with_len}
 use Rattle.std.specs.List.Sorted.{IsStrictlyIncreasing}
 use Rattle.pack_model.specs.Problem.{Parts, IsProblem, sent_by}

@@ -5,6 +5,7 @@ ghost use Rattle.bandwidth_bound.specs.Bounds.{load8_of};
 ghost use Rattle.bandwidth_bound.specs.Loads.{LoadsFit};
 ghost use Rattle.bandwidth_bound.specs.Prices.{lower8_of};
 
+use crate::floors::{Rest, items_of};
 use grouping_tree::Partial;
 use pack_model::Problem;
 
@@ -24,7 +25,13 @@ pub fn lower8(partial: &Partial, problem: &Problem, lemmas: &[u128]) -> u128
     ensures { result
         ≡ lower8_of problem.now lemmas.now (range_of problem.now partial.now) (labels_of partial.now) }
 {
-    load8(partial, problem)
+    let items = items_of(problem, partial.range());
+    let placed = partial.labels().len();
+    let mut rest = Rest::none();
+    for place in (placed..items.len()).rev() {
+        rest = rest.with_item(problem, items, place, lemmas);
+    }
+    rest.lower8(partial)
 }
 
 /// A load in eighths is below 2 to the power of 128, and so is the bound.

@@ -8,15 +8,15 @@ pub fn leaves_cover()
     ensures main { MainLeavesCover }
 {}
 
-/// The values of lemmas that stand are at most 8 times the load of every legal grouping of their sender's items
-/// alone.
+/// The values of lemmas that stand are at most 8 times the load of every legal grouping of their sender's
+/// items alone.
 pub fn standing_lemmas_hold()
     ensures { StandingLemmasHold }
 {}
 
 /// A grouping that can meet all deadlines and extends the place of a standing tree has at least the best's
-/// load or extends the place of an open leaf, where the values of lemmas hold. Where no leaf may be left open,
-/// none is.
+/// load or extends the place of an open leaf, where the values of lemmas hold. Where no leaf may be left
+/// open, none is.
 pub fn standing_trees_claim()
     ensures claim { TreesClaim }
     ensures closed { NoneIsOpen }

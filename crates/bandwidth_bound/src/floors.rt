@@ -1,22 +1,23 @@
 //! What the items that are not placed cost at least, and the lower bound by it.
-ghost use Rattle.std.specs.Prelude.{◌≡◌, ◌≤◌, ◌<◌, ℕ, List, length, IfOk, IfSome};
-ghost use Rattle.pack_model.specs.Problem.{Parts};
+ghost use Rattle.std.specs.Prelude.{◌≡◌, ◌≤◌, ◌<◌, ◌+◌, ◌↔◌, ℕ, List, Option, Some, length, take, slice_index_or, count_by, nat_eq, nat_lt, Contains, IfOk, IfSome, IsTrue};
+ghost use Rattle.pack_model.specs.Problem.{IsProblem, Parts};
+ghost use Rattle.pack_model.specs.declared.item.Item.{Item};
 ghost use Rattle.grouping_tree.specs.Grouped.{Belongs, items_in, labels_of, range_of, sender_of};
-ghost use Rattle.bandwidth_bound.specs.Floors.{AreFloors, HasTables, floors_room};
-ghost use Rattle.bandwidth_bound.specs.Prices.{lower8_of};
+ghost use Rattle.grouping_tree.specs.Slack.{last_sender};
+ghost use Rattle.bandwidth_bound.specs.Floors.{AreFloors, AreInRange, HasTables, IsRest, floors_room};
+ghost use Rattle.bandwidth_bound.specs.Prices.{lower8_of, price_of};
 
+use class_frame::Sums;
 use grouping_tree::Partial;
-use pack_model::{Memory, Problem};
+use pack_model::{Item, Memory, Problem};
 use std::alloc::Global;
 
 /// What the items of a range that are not placed cost at least, by the number of items placed, in eighths of
 /// ticks a common period.
 #[derive(Drop)]
 pub struct Floors {
-    /// The prices of the items that the sender in work has left.
-    left: Vec<u128>,
-    /// What the senders without an item placed cost at least, at most 2 to the power of 128 less 1.
-    later: Vec<u128>,
+    /// What is left after each number of items placed.
+    rests: Vec<Rest>,
 }
 
 impl Floors {
@@ -25,7 +26,9 @@ impl Floors {
         ensures tables { IfOk result HasTables }
         ensures room { IfOk result (λ floors. floors_room floors ≡ length problem.now.items) }
     {
-        Err(Memory)
+        Ok(Floors {
+            rests: vec![in alloc; Rest::none(); problem.items().len() + 1]?,
+        })
     }
 
     /// Fills the tables for the items of a sender of the problem, or for all, with the values of lemmas by
@@ -38,6 +41,13 @@ impl Floors {
         ensures room { floors_room self.new ≡ floors_room self.old }
         ensures floors { AreFloors problem.now range values.now self.new }
     {
+        let items = items_of(problem, range);
+        let mut rest = Rest::none();
+        self.rests[items.len()] = rest;
+        for place in (0..items.len()).rev() {
+            rest = rest.with_item(problem, items, place, values);
+            self.rests[place] = rest;
+        }
     }
 
     /// The lower bound at a partial grouping of the range, in eighths of ticks a common period, for every
@@ -49,6 +59,120 @@ impl Floors {
             → AreFloors problem (sender_of partial.now) values self.now
             → result ≡ lower8_of problem values (range_of problem partial.now) (labels_of partial.now) }
     {
-        0
+        self.rests[partial.labels().len()].lower8(partial)
     }
+}
+
+/// What the items of a range cost at least that are not placed, in eighths of ticks a common period.
+#[derive(Clone, Copy, Debug, PartialEq, Eq)]
+pub struct Rest {
+    /// The prices of the items that the sender in work has left.
+    left: u128,
+    /// What the senders without an item placed cost at least, at most 2 to the power of 128 less 1.
+    later: u128,
+}
+
+impl Rest {
+    /// Where all items are placed nothing is left.
+    pub fn none() -> Rest
+        ensures { (problem : Parts) (values : List ℕ) (items : List Item) → IsProblem problem
+            → AreInRange problem items → IsRest problem values items (length items) result }
+    {
+        Rest { left: 0, later: 0 }
+    }
+
+    /// What is left where the item at a place isn't placed either, but all before it.
+    pub fn with_item(self, problem: &Problem, items: &[Item], place: usize, values: &[u128]) -> Rest
+        requires range { AreInRange problem.now items.now }
+        requires below { place < length items.now }
+        requires rest { IsRest problem.now values.now items.now (place + 1) self }
+        ensures { IsRest problem.now values.now items.now place result }
+    {
+        let item = &items[place];
+        let left = self.left + price(problem, item);
+        if is_in_work(items, place) {
+            Rest {
+                left,
+                later: self.later,
+            }
+        } else {
+            let floor = left.max(value_at(values, item.sender));
+            Rest {
+                left: 0,
+                later: self.later.saturating_add(floor),
+            }
+        }
+    }
+
+    /// The lower bound at a partial grouping after which this is left.
+    pub fn lower8(self, partial: &Partial) -> u128
+        requires { (problem : Parts) × Belongs problem partial.now }
+        ensures { (problem : Parts) (values : List ℕ) → Belongs problem partial.now
+            → IsRest problem values (range_of problem partial.now) (length (labels_of partial.now)) self
+            → result ≡ lower8_of problem values (range_of problem partial.now) (labels_of partial.now) }
+    {
+        let left = self.left.saturating_sub(partial.kept_slack());
+        let load = 8 * partial.kept_load();
+        load.saturating_add(left).saturating_add(self.later)
+    }
+}
+
+/// The items of a sender of the problem, or all.
+pub fn items_of<'a>(problem: &'a Problem, range: Option<u32>) -> &'a [Item]
+    ensures items { result.now ≡ items_in problem.now.items range }
+    ensures problem { IsProblem problem.now }
+{
+    let items = problem.items();
+    match range {
+        Some(sender) => {
+            let first = count_before(items, sender);
+            let end = first + count_of(items, sender);
+            &items[first..end]
+        }
+        None => items,
+    }
+}
+
+/// How many items are of senders before one.
+fn count_before(items: &[Item], sender: u32) -> usize
+    ensures { result ≡ count_by (λ item. nat_lt item.sender sender) items.now }
+{
+    items.iter().filter(|item| item.sender < sender).count()
+}
+
+/// How many items are of a sender.
+fn count_of(items: &[Item], sender: u32) -> usize
+    ensures { result ≡ count_by (λ item. nat_eq item.sender sender) items.now }
+{
+    items.iter().filter(|item| item.sender == sender).count()
+}
+
+/// Whether the item at a place is of the sender in work where all items before it are placed.
+fn is_in_work(items: &[Item], place: usize) -> bool
+    requires { place < length items.now }
+    ensures { (d : Item) → IsTrue result
+        ↔ (last_sender (take place items.now) ≡ Some (slice_index_or items.now place d).sender) }
+{
+    place > 0 && items[place - 1].sender == items[place].sender
+}
+
+/// The value of a sender's lemma, 0 where there is none.
+fn value_at(values: &[u128], sender: u32) -> u128
+    ensures { result ≡ slice_index_or values.now sender 0 }
+{
+    values.get(sender as usize).copied().unwrap_or(0)
+}
+
+/// The price of an item of the problem: ten data bits for each byte of its weight, at the item's own period,
+/// in eighths of ticks a common period.
+fn price(problem: &Problem, item: &Item) -> u128
+    requires { Contains problem.now.items item.now }
+    ensures price { result ≡ price_of problem.now item.now }
+    ensures problem { IsProblem problem.now }
+{
+    let network = problem.network();
+    let sums = Sums::of(problem, item);
+    let bits = 10 * network.data_ticks * sums.weight;
+    let rate = problem.hyper() / sums.timed(network).period;
+    u128::from(bits) * u128::from(rate)
 }

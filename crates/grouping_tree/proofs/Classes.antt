@@ -1,5 +1,5 @@
 -- The class of a label in a front of labels is a front of its class, and a front of a class is one.
-use Rattle.std.proofs.Common.{◌≡◌, ℕ, zero, suc, ◌<◌, Bool, true, false, cond, List, [], ◌∷◌, ◌++◌, length, map, filter, drop, get_or, nat_eq, AllPairs, refl, ap, subst, arith, length-append}
+use Rattle.std.proofs.Common.{◌≡◌, ℕ, zero, suc, ◌<◌, Bool, true, false, cond, List, [], ◌∷◌, ◌++◌, length, map, filter, drop, get_or, nat_eq, AllPairs, refl, ap, subst, ◌∙◌, arith, append-nil, length-append}
 use Rattle.std.specs.List.{zip}
 use Rattle.pack_model.specs.declared.item.Item.{Item}
 use Rattle.class_frame.specs.Grouping.{class_of}
@@ -19,6 +19,14 @@ class-append {X} k (l ∷ p) r (x ∷ xs) = by (nat_eq l k) (class-append k p r 
         ≡ map (λ (e : ℕ × X). e.1) (cond b ((l, x) ∷ filter (λ e. nat_eq e.0 k) (zip p xs)) (filter (λ e. nat_eq e.0 k) (zip p xs))) ++ class_of k r (drop (length p) xs)
     by true ih = ap (λ ys. x ∷ ys) ih
     by false ih = ih
+
+class-other : {X : Type 0} (k l : ℕ) (xs : List X) → nat_eq l k ≡ false → class_of k (l ∷ []) xs ≡ []
+class-other k l [] e = refl
+class-other k l (x ∷ xs) e = rw e refl
+
+-- the class of another label stays
+pub class-stays : (k : ℕ) (p : List ℕ) (l : ℕ) (items : List Item) → nat_eq l k ≡ false → class_of k (p ++ l ∷ []) items ≡ class_of k p items
+class-stays k p l items e = class-append k p (l ∷ []) items ∙ ap (λ ys. class_of k p items ++ ys) (class-other k l (drop (length p) items) e) ∙ append-nil (class_of k p items)
 
 pub get_or-front : {X : Type 0} (xs ys : List X) (i : ℕ) (d : X) → i < length xs → get_or (xs ++ ys) i d ≡ get_or xs i d
 get_or-front [] ys i d lt = absurd (omega arith)

@@ -1,9 +1,11 @@
+pub mod After
 pub mod Classes
 pub mod Fronts
 pub mod Loads
 pub mod Options
 pub mod Puts
 pub mod Senders
+pub mod Slacks
 pub mod Steps
 pub mod Used
 pub mod Walks

@@ -1,19 +1,21 @@
--- The load of a grouping after one more label, and how large it is.
+-- A sum over the classes of a grouping after one more label, and how large the load is.
 use Rattle.std.proofs.Common.{◌≡◌, ℕ, zero, suc, ◌+◌, ◌*◌, ◌/◌, ◌<◌, ◌≤◌, ◌⊎◌, inl, inr, max, List, [], ◌∷◌, ◌++◌, sum_by, refl, sym, ap, ◌∙◌, arith}
 use Rattle.std.specs.List.{range_with_len}
-use Rattle.std.proofs.Math.Nat.{div-le_self, mul-le-mul}
+use Rattle.std.proofs.Math.Nat.{div-le_self, div-zero, mul-le-mul}
 use Rattle.std.proofs.lemmas.Bool.{cases_eq, cases_lt, ne_eqb}
 use Rattle.std.proofs.lemmas.List.Sums.{sum_by-cons}
 use Rattle.pack_model.specs.declared.item.Item.{Item}
 use Rattle.pack_model.specs.Problem.{Parts, IsProblem}
 use Rattle.pack_model.proofs.Laws.{tests}
 use Rattle.class_frame.specs.Classes.{load_of}
-use Rattle.class_frame.specs.Frame.{load_of_items, period_of_items}
+use Rattle.class_frame.specs.Frame.{load_of_items, period_of_items, ticks_of_items}
 use Rattle.class_frame.specs.Grouping.{class_of, classes_of}
 use Rattle.class_frame.specs.Laws.{HasSignal}
 use Rattle.class_frame.proofs.GroupingLaws.{classes_of-push}
 use Rattle.class_frame.proofs.Ranges.{frame_in_range}
-use Rattle.grouping_tree.proofs.Puts.{class-stays}
+use Rattle.grouping_tree.specs.Slack.{over_classes}
+use Rattle.grouping_tree.proofs.Classes.{class-stays}
+use Rattle.grouping_tree.proofs.Puts.{class-unused}
 
 -- sums of equal numbers
 sum_same : (f g : ℕ → ℕ) (a n : ℕ) → ((k : ℕ) → a ≤ k → k < a + n → f k ≡ g k) → sum_by f (range_with_len a n) ≡ sum_by g (range_with_len a n)
@@ -56,36 +58,48 @@ sum_has f l a (suc n) le lt = by (cases_eq a l) (sum_has f l (a + 1) n)
     by (inr ne) ih = omega (arith, sum_by-cons f a (range_with_len (a + 1) n), ih (omega (arith, le, ne)) (omega (arith, lt)))
 
 -- and the sum at most the greatest times as many
-sum_most : (f : ℕ → ℕ) (most a n : ℕ) → ((k : ℕ) → a ≤ k → k < a + n → f k ≤ most) → sum_by f (range_with_len a n) ≤ most * n
+pub sum_most : (f : ℕ → ℕ) (most a n : ℕ) → ((k : ℕ) → a ≤ k → k < a + n → f k ≤ most) → sum_by f (range_with_len a n) ≤ most * n
 sum_most f most a zero each = omega arith
 sum_most f most a (suc n) each =
     omega (arith, sum_by-cons f a (range_with_len (a + 1) n), each a (omega arith) (omega arith), sum_most f most (a + 1) n (λ k le lt. each k (omega (arith, le)) (omega (arith, lt))))
 
--- what the load of a class was before and is with one item more makes the load of the grouping
-pub load_put : (problem : Parts) (range : List Item) (p : List ℕ) (l old : ℕ) → l ≤ classes_of p
-    → (l < classes_of p → old ≡ load_of_items problem (class_of l p range)) → (l ≡ classes_of p → old ≡ 0)
-    → (load_of problem range (p ++ l ∷ []) + old ≡ load_of problem range p + load_of_items problem (class_of l (p ++ l ∷ []) range)) × (old ≤ load_of problem range p)
-load_put problem range p l old low used new = by (cases_lt l (classes_of p))
+-- what a figure of a class was before and is with one item more makes its sum over the classes
+pub over_put : (figure : List Item → ℕ) → figure [] ≡ 0 → (range : List Item) (p : List ℕ) (l : ℕ) → l ≤ classes_of p
+    → (over_classes figure range (p ++ l ∷ []) + figure (class_of l p range) ≡ over_classes figure range p + figure (class_of l (p ++ l ∷ []) range))
+    × (figure (class_of l p range) ≤ over_classes figure range p)
+over_put figure zero_is range p l low = by (cases_lt l (classes_of p))
   where
-    same : (k : ℕ) → (k ≡ l → ⊥) → load_of_items problem (class_of k p range) ≡ load_of_items problem (class_of k (p ++ l ∷ []) range)
-    same k ne = ap (load_of_items problem) (sym (class-stays k p l range (ne_eqb l k (λ e. ne (sym e)))))
-
     by : (l < classes_of p) ⊎ (classes_of p ≤ l)
-        → (load_of problem range (p ++ l ∷ []) + old ≡ load_of problem range p + load_of_items problem (class_of l (p ++ l ∷ []) range)) × (old ≤ load_of problem range p)
+        → (over_classes figure range (p ++ l ∷ []) + figure (class_of l p range) ≡ over_classes figure range p + figure (class_of l (p ++ l ∷ []) range))
+        × (figure (class_of l p range) ≤ over_classes figure range p)
     by (inl lt) =
+        let F = λ (k : ℕ). figure (class_of k p range) in
+        let G = λ (k : ℕ). figure (class_of k (p ++ l ∷ []) range) in
+        let same = λ (k : ℕ) (ne : k ≡ l → ⊥). ap figure (sym (class-stays k p l range (ne_eqb l k (λ e. ne (sym e))))) in
         let n : classes_of (p ++ l ∷ []) ≡ classes_of p = classes_of-push p l ∙ (let m : max (classes_of p) (l + 1) ≡ classes_of p = omega arith in m) in
-        let F = λ (k : ℕ). load_of_items problem (class_of k p range) in
-        let G = λ (k : ℕ). load_of_items problem (class_of k (p ++ l ∷ []) range) in
-        let all : load_of problem range (p ++ l ∷ []) ≡ sum_by G (range_with_len 0 (classes_of p)) = ap (λ m. sum_by G (range_with_len 0 m)) n in
-        (omega (arith, all, used lt, sum_moved F G l 0 (classes_of p) (omega arith) (omega arith) same), omega (arith, used lt, sum_has F l 0 (classes_of p) (omega arith) (omega arith)))
+        let all : over_classes figure range (p ++ l ∷ []) ≡ sum_by G (range_with_len 0 (classes_of p)) = ap (λ m. sum_by G (range_with_len 0 m)) n in
+        (omega (arith, all, sum_moved F G l 0 (classes_of p) (omega arith) (omega arith) same), sum_has F l 0 (classes_of p) (omega arith) (omega arith))
     by (inr le) =
+        let F = λ (k : ℕ). figure (class_of k p range) in
+        let G = λ (k : ℕ). figure (class_of k (p ++ l ∷ []) range) in
+        let same = λ (k : ℕ) (ne : k ≡ l → ⊥). ap figure (sym (class-stays k p l range (ne_eqb l k (λ e. ne (sym e))))) in
         let here : l ≡ classes_of p = omega (arith, le, low) in
+        let none : figure (class_of l p range) ≡ 0 = ap figure (class-unused p range l (omega (arith, here))) ∙ zero_is in
         let n : classes_of (p ++ l ∷ []) ≡ suc (classes_of p) = classes_of-push p l ∙ (let m : max (classes_of p) (l + 1) ≡ suc (classes_of p) = omega (arith, here) in m) in
-        let F = λ (k : ℕ). load_of_items problem (class_of k p range) in
-        let G = λ (k : ℕ). load_of_items problem (class_of k (p ++ l ∷ []) range) in
-        let all : load_of problem range (p ++ l ∷ []) ≡ sum_by G (range_with_len 0 (suc (classes_of p))) = ap (λ m. sum_by G (range_with_len 0 m)) n in
+        let all : over_classes figure range (p ++ l ∷ []) ≡ sum_by G (range_with_len 0 (suc (classes_of p))) = ap (λ m. sum_by G (range_with_len 0 m)) n in
         let before = sum_same F G 0 (classes_of p) (λ k low lt. same k (λ e. omega (arith, e, here, lt))) in
-        (omega (arith, all, new here, sum_end G 0 (classes_of p), before, ap G here, ap G (let e : 0 + classes_of p ≡ classes_of p = omega arith in e)), omega (arith, new here))
+        let last : G (0 + classes_of p) ≡ figure (class_of l (p ++ l ∷ []) range) = ap G (let e : 0 + classes_of p ≡ l = omega (arith, here) in e) in
+        (omega (arith, all, none, sum_end G 0 (classes_of p), before, last), omega (arith, none))
+
+-- no items are sent no times in a common period
+pub no_share : (problem : Parts) → problem.hyper / period_of_items problem [] ≡ 0
+no_share problem =
+    let none : period_of_items problem [] ≡ 0 = omega arith in
+    ap (λ n. problem.hyper / n) none ∙ div-zero problem.hyper
+
+-- and have no load
+pub no_load : (problem : Parts) → load_of_items problem [] ≡ 0
+no_load problem = ap (λ n. ticks_of_items problem [] * n) (no_share problem) ∙ (let none : ticks_of_items problem [] * 0 ≡ 0 = omega arith in none)
 
 -- the load of a class of some signals is at most 10^23
 pub load_low : (problem : Parts) (items : List Item) → IsProblem problem → HasSignal problem items → load_of_items problem items ≤ 100000000000000000000000

@@ -1,5 +1,5 @@
 -- Each option keeps the grouping legal, and the first unused label is one where the next item can be a frame.
-use Rattle.std.proofs.Common.{◌≡◌, ◌||◌, if◌then◌else◌, is_some, sum_by, Option, None, Some, ℕ, zero, suc, ◌+◌, ◌<◌, ◌≤◌, ◌⊎◌, inl, inr, Bool, true, false, cond, List, [], ◌∷◌, ◌++◌, length, drop, take, get_or, filter, count_by, nat_eq, All, AllPairs, refl, sym, ap, subst, ◌∙◌, arith, length-append, append-nil}
+use Rattle.std.proofs.Common.{◌≡◌, ◌||◌, if◌then◌else◌, is_some, sum_by, Option, None, Some, ℕ, zero, suc, ◌+◌, ◌<◌, ◌≤◌, ◌⊎◌, inl, inr, Bool, true, false, cond, List, [], ◌∷◌, ◌++◌, length, drop, take, get_or, filter, count_by, nat_eq, All, AllPairs, refl, sym, ap, subst, ◌∙◌, arith, length-append}
 use Rattle.std.specs.List.{cons_option, range_with_len}
 use Rattle.std.proofs.lemmas.Bool.{eqb-true, eq-eqb, ne_eqb, lt-ltb, le-ltb, cases_lt}
 use Rattle.std.proofs.lemmas.List.{take-append-le}
@@ -13,17 +13,9 @@ use Rattle.class_frame.specs.Frame.{bytes_of_item, bytes_of_items}
 use Rattle.class_frame.specs.Grouping.{class_of, classes_of}
 use Rattle.class_frame.specs.Legal.{ClassStands}
 use Rattle.grouping_tree.specs.Partial.{IsPartial, keeps_legal, options_of}
-use Rattle.grouping_tree.proofs.Classes.{class-append, get_or-front}
+use Rattle.grouping_tree.proofs.Classes.{class-append, class-stays, get_or-front}
 use Rattle.grouping_tree.proofs.Steps.{element}
 use Rattle.grouping_tree.proofs.Options.{is_class-from, is_class-to, next-once, get_or-next, take-front}
-
-class-other : {X : Type 0} (k l : ℕ) (xs : List X) → nat_eq l k ≡ false → class_of k (l ∷ []) xs ≡ []
-class-other k l [] e = refl
-class-other k l (x ∷ xs) e = rw e refl
-
--- the class of another label stays
-pub class-stays : (k : ℕ) (p : List ℕ) (l : ℕ) (items : List Item) → nat_eq l k ≡ false → class_of k (p ++ l ∷ []) items ≡ class_of k p items
-class-stays k p l items e = class-append k p (l ∷ []) items ∙ ap (λ ys. class_of k p items ++ ys) (class-other k l (drop (length p) items) e) ∙ append-nil (class_of k p items)
 
 -- a label that keeps the grouping legal may be put
 pub put-legal : (items : List Item) (p : List ℕ) (l : ℕ) → IsPartial items p → length p < length items → l ≤ classes_of p → keeps_legal items p l ≡ true → IsPartial items (p ++ l ∷ [])

@@ -1,15 +1,13 @@
--- What putting and taking back a label leave of the sums that are kept.
-use Rattle.std.proofs.Common.{◌≡◌, ℕ, ◌+◌, ◌<◌, ◌≤◌, ◌⊎◌, inl, inr, zero, suc, Bool, true, false, cond, nat_eq, List, [], ◌∷◌, ◌++◌, length, map, filter, get_or, take, drop, set, refl, sym, ap, subst, ◌∙◌, arith, append-nil, length-take-le}
+-- What putting and taking back a label leave of what is kept of each label.
+use Rattle.std.proofs.Common.{◌≡◌, ℕ, ◌+◌, ◌<◌, ◌≤◌, ◌⊎◌, inl, inr, zero, suc, Bool, true, false, cond, nat_eq, List, [], ◌∷◌, ◌++◌, length, map, filter, get_or, take, drop, set, refl, sym, ap, subst, ◌∙◌, arith, length-take-le}
 use Rattle.std.specs.List.{zip}
 use Rattle.std.proofs.lemmas.Bool.{cases_eq, eq-eqb, ne_eqb}
 use Rattle.std.proofs.lemmas.Grind.{get_or-set_at}
 use Rattle.std.proofs.lemmas.List.{take_more, take_more_set, take-set, take-set-le, get_or-set_other, get_or-take, get_or-drop, length-drop}
 use Rattle.pack_model.specs.declared.item.Item.{Item}
-use Rattle.pack_model.specs.Problem.{Parts}
 use Rattle.class_frame.specs.Grouping.{class_of}
 use Rattle.class_frame.proofs.GroupingLaws.{class_of-cons}
-use Rattle.class_frame.specs.declared.sums.Sums.{Sums}
-use Rattle.class_frame.specs.Sums.{sums_of, AreSums}
+use Rattle.grouping_tree.proofs.Classes.{class-stays}
 
 -- one more label puts the next item into its class alone
 pub class_put : {X : Type 0} (k label : ℕ) (labels : List ℕ) (xs : List X) (x : X) → length labels < length xs → x ≡ get_or xs (length labels) x → class_of k (labels ++ label ∷ []) xs ≡ class_of k labels xs ++ cond (nat_eq label k) (x ∷ []) []
@@ -40,29 +38,25 @@ length-class_labels {X} k (label ∷ labels) (x ∷ xs) = by (nat_eq label k) (l
     by true rest = omega arith
     by false rest = omega arith
 
--- the class of a number after the first labels and one more
-one_more : (k : ℕ) (labels : List ℕ) (count label : ℕ) (range : List Item) (item : Item) → count ≤ length labels → count < length range → item ≡ get_or range count item → class_of k (take count labels ++ label ∷ []) range ≡ class_of k (take count labels) range ++ cond (nat_eq label k) (item ∷ []) []
-one_more k labels count label range item some within at =
-    let long = length-take-le count labels some in
-    class_put k label (take count labels) range item (omega (arith, long)) (at ∙ ap (λ n. get_or range n item) (sym long))
-
--- a label that is put
-pub sums_put : (problem : Parts) (range : List Item) (labels : List ℕ) (sums : List Sums) (count label : ℕ) (item : Item) (next : Sums) → count < length labels → count < length range → label < length sums → item ≡ get_or range count item
-    → ((k : ℕ) (d : Sums) → k < length sums → AreSums problem (class_of k (take count labels) range) (get_or sums k d))
-    → AreSums problem (class_of label (take count labels) range ++ item ∷ []) next
-    → (k : ℕ) (d : Sums) → k < length sums → AreSums problem (class_of k (take (count + 1) (set labels count label)) range) (get_or (set sums label next) k d)
-sums_put problem range labels sums count label item next some within low at are joins k d lt = by (cases_eq k label)
+-- what a label that is put leaves of a table by label
+pub label_put : {U : Type 0} (P : List Item → U → Type 0) (range : List Item) (labels : List ℕ) (table : List U) (count label : ℕ) (value : U) → count < length labels → label < length table
+    → ((k : ℕ) (d : U) → k < length table → P (class_of k (take count labels) range) (get_or table k d))
+    → P (class_of label (take count labels ++ label ∷ []) range) value
+    → (k : ℕ) (d : U) → k < length table → P (class_of k (take (count + 1) (set labels count label)) range) (get_or (set table label value) k d)
+label_put {U} P range labels table count label value some low are is k d lt = by (cases_eq k label)
   where
-    step : class_of k (take (count + 1) (set labels count label)) range ≡ class_of k (take count labels) range ++ cond (nat_eq label k) (item ∷ []) []
-    step = ap (λ ls. class_of k ls range) (take_more_set labels count label some) ∙ one_more k labels count label range item (omega arith) within at
+    step : take (count + 1) (set labels count label) ≡ take count labels ++ label ∷ []
+    step = take_more_set labels count label some
 
-    by : (k ≡ label) ⊎ (k ≡ label → ⊥) → get_or (set sums label next) k d ≡ sums_of problem (class_of k (take (count + 1) (set labels count label)) range)
+    by : (k ≡ label) ⊎ (k ≡ label → ⊥) → P (class_of k (take (count + 1) (set labels count label)) range) (get_or (set table label value) k d)
     by (inl same) =
-        get_or-set_at sums label k next d same low ∙ joins
-        ∙ sym (ap (sums_of problem) (step ∙ ap (λ b. class_of k (take count labels) range ++ cond b (item ∷ []) []) (eq-eqb label k (sym same)) ∙ ap (λ n. class_of n (take count labels) range ++ item ∷ []) same))
+        subst (λ ls. P (class_of k ls range) (get_or (set table label value) k d)) (sym step)
+        (subst (P (class_of k (take count labels ++ label ∷ []) range)) (sym (get_or-set_at table label k value d same low))
+        (subst (λ m. P (class_of m (take count labels ++ label ∷ []) range) value) (sym same) is))
     by (inr other) =
-        get_or-set_other sums label k next d other ∙ are k d lt
-        ∙ sym (ap (sums_of problem) (step ∙ ap (λ b. class_of k (take count labels) range ++ cond b (item ∷ []) []) (ne_eqb label k (λ e. other (sym e))) ∙ append-nil (class_of k (take count labels) range)))
+        subst (λ ls. P (class_of k ls range) (get_or (set table label value) k d)) (sym step)
+        (subst (P (class_of k (take count labels ++ label ∷ []) range)) (sym (get_or-set_other table label k value d other))
+        (subst (λ items. P items (get_or table k d)) (sym (class-stays k (take count labels) label range (ne_eqb label k (λ e. other (sym e))))) (are k d lt)))
 
 -- what was kept before it
 pub before_put : {U : Type 0} (P : ℕ → List ℕ → U → Type 0) (labels : List ℕ) (kept : List U) (count label : ℕ) (before : U) → count < length labels → count < length kept
@@ -82,19 +76,23 @@ before_put {U} P labels kept count label before some low is are i d lt = by (cas
         move (get_or (set labels count label) i 0) (get_or labels i 0) (take i (set labels count label)) (take i labels) (get_or (set kept count before) i d) (get_or kept i d)
         (get_or-set_other labels count i label 0 other) (take-set-le i labels count label (omega arith)) (get_or-set_other kept count i before d other) (are i d (omega (arith, lt, other)))
 
--- a label that is taken back
-pub sums_back : (problem : Parts) (range : List Item) (labels : List ℕ) (sums : List Sums) (n label : ℕ) (item : Item) (before : Sums) → n < length labels → n < length range → label < length sums → item ≡ get_or range n item → get_or labels n 0 ≡ label
-    → ((k : ℕ) (d : Sums) → k < length sums → AreSums problem (class_of k (take (n + 1) labels) range) (get_or sums k d))
-    → AreSums problem (class_of label (take n labels) range) before
-    → (k : ℕ) (d : Sums) → k < length sums → AreSums problem (class_of k (take n labels) range) (get_or (set sums label before) k d)
-sums_back problem range labels sums n label item before some within low at here are is k d lt = by (cases_eq k label)
+-- what a label that is taken back leaves of such a table
+pub label_back : {U : Type 0} (P : List Item → U → Type 0) (range : List Item) (labels : List ℕ) (table : List U) (n label : ℕ) (value : U) → n < length labels → label < length table → get_or labels n 0 ≡ label
+    → ((k : ℕ) (d : U) → k < length table → P (class_of k (take (n + 1) labels) range) (get_or table k d))
+    → P (class_of label (take n labels) range) value
+    → (k : ℕ) (d : U) → k < length table → P (class_of k (take n labels) range) (get_or (set table label value) k d)
+label_back {U} P range labels table n label value some low here are is k d lt = by (cases_eq k label)
   where
-    by : (k ≡ label) ⊎ (k ≡ label → ⊥) → get_or (set sums label before) k d ≡ sums_of problem (class_of k (take n labels) range)
-    by (inl same) = get_or-set_at sums label k before d same low ∙ is ∙ ap (λ m. sums_of problem (class_of m (take n labels) range)) (sym same)
+    step : take (n + 1) labels ≡ take n labels ++ label ∷ []
+    step = take_more labels n 0 some ∙ ap (λ m. take n labels ++ m ∷ []) here
+
+    by : (k ≡ label) ⊎ (k ≡ label → ⊥) → P (class_of k (take n labels) range) (get_or (set table label value) k d)
+    by (inl same) =
+        subst (P (class_of k (take n labels) range)) (sym (get_or-set_at table label k value d same low))
+        (subst (λ m. P (class_of m (take n labels) range) value) (sym same) is)
     by (inr other) =
-        get_or-set_other sums label k before d other ∙ are k d lt
-        ∙ ap (sums_of problem) (ap (λ ls. class_of k ls range) (take_more labels n 0 some ∙ ap (λ m. take n labels ++ m ∷ []) here) ∙ one_more k labels n label range item (omega arith) within at
-        ∙ ap (λ b. class_of k (take n labels) range ++ cond b (item ∷ []) []) (ne_eqb label k (λ e. other (sym e))) ∙ append-nil (class_of k (take n labels) range))
+        subst (P (class_of k (take n labels) range)) (sym (get_or-set_other table label k value d other))
+        (subst (λ items. P items (get_or table k d)) (ap (λ ls. class_of k ls range) step ∙ class-stays k (take n labels) label range (ne_eqb label k (λ e. other (sym e)))) (are k d lt))
 
 -- an item of the range
 pub range_at : {X : Type 0} (first room : ℕ) (xs : List X) (i : ℕ) (d : X) → i < room → get_or (take room (drop first xs)) i d ≡ get_or xs (first + i) d

@@ -1,6 +1,7 @@
 -- What belonging gives: room for the next label, small sums, and a signal for each used label.
-use Rattle.std.proofs.Common.{◌≡◌, ◌<◌, ◌≤◌, ◌+◌, ℕ, Bool, true, false, IsTrue, ◌↔◌, [], ◌∷◌, ◌++◌, List, length, take, drop, All, sym, ap, subst, ◌∙◌, arith, length-append, length-take-le, refl}
-use Rattle.std.proofs.lemmas.Bool.{false≢true}
+use Rattle.std.proofs.Common.{◌≡◌, ◌<◌, ◌≤◌, ◌+◌, ℕ, Bool, true, false, IsTrue, ◌↔◌, [], ◌∷◌, ◌++◌, List, length, take, drop, fold, get_or, min, nat_eq, Some, All, sym, ap, subst, ◌∙◌, arith, length-append, length-take-le, refl}
+use Rattle.std.proofs.lemmas.Bool.{false≢true, ne_eqb}
+use Rattle.std.proofs.lemmas.List.{get_or-take}
 use Rattle.std.proofs.lemmas.List.Elements.{All-weaker}
 use Rattle.std.proofs.lemmas.List.Sorted.{IsPermutation-refl}
 use Rattle.pack_model.specs.declared.item.Item.{Item}
@@ -22,11 +23,13 @@ use Rattle.class_frame.proofs.Joining.{sums_of-append}
 use Rattle.class_frame.proofs.Tables.{joined_small}
 use Rattle.class_frame.proofs.Used.{items_have_signal, class_is_small}
 use Rattle.grouping_tree.specs.Partial.{IsPartial, is_class, keeps_legal}
-use Rattle.grouping_tree.specs.Grouped.{Belongs, IsNext, IsUsed, items_with, labels_of, range_of, room_of}
+use Rattle.grouping_tree.specs.Grouped.{Belongs, IsNext, IsUsed, items_with, labels_of, range_of, room_of, slack_at}
+use Rattle.grouping_tree.specs.Slack.{last_sender, sender_in_work, slack_in_work, slack_of, slacks_of}
 use Rattle.grouping_tree.specs.declared.partial.Partial.{Partial}
 use Rattle.grouping_tree.proofs.Fronts.{partial-append}
-use Rattle.grouping_tree.proofs.Loads.{load_put, load_low, loads_low}
-use Rattle.grouping_tree.proofs.Puts.{class-unused}
+use Rattle.grouping_tree.proofs.Loads.{over_put, no_load, load_low, loads_low}
+use Rattle.grouping_tree.proofs.Senders.{problem_rises}
+use Rattle.grouping_tree.proofs.Slacks.{last-take, rises_at, slack_low, slacks_low, slacks_none, slacks_put}
 use Rattle.grouping_tree.proofs.Options.{next-low, is_class-to, is_class-from}
 use Rattle.grouping_tree.proofs.Steps.{class_next, element, range_at, length-class_labels, length-range}
 
@@ -170,22 +173,90 @@ last_low problem p q l b e =
     )
 
 -- the load with one more label
-pub load_put_is : (problem : Parts) (p : Partial) (label old new : ℕ) (next sums with_next : Sums) → Belongs problem p → IsNext problem p next → label ≤ classes_of (labels_of p)
-    → AreSums problem (items_with problem p label) sums → AreSums problem (class_of label (labels_of p ++ label ∷ []) (range_of problem p)) with_next
-    → (sums.items ≡ 0 → old ≡ 0) → ((problem : Parts) (items : List Item) → Belongs problem p → AreSums problem items sums → HasSignal problem items → old ≡ load_of_items problem items)
-    → ((problem : Parts) (items : List Item) → Belongs problem p → AreSums problem items with_next → HasSignal problem items → new ≡ load_of_items problem items)
-    → (old ≤ p.load) × (p.load ≤ 12800000000000000000000000) × (new ≤ 100000000000000000000000) × (load_of problem (range_of problem p) (labels_of p ++ label ∷ []) + old ≡ p.load + new)
-load_put_is problem p label old new next sums with_next b is low are will none before after =
+pub load_put : (problem : Parts) (p : Partial) (label : ℕ) (next : Sums) → Belongs problem p → IsNext problem p next → label ≤ classes_of (labels_of p)
+    → (load_of_items problem (items_with problem p label) ≤ load_of problem (range_of problem p) (labels_of p))
+    × (load_of problem (range_of problem p) (labels_of p) ≤ 12800000000000000000000000)
+    × (load_of_items problem (class_of label (labels_of p ++ label ∷ []) (range_of problem p)) ≤ 100000000000000000000000)
+    × (load_of problem (range_of problem p) (labels_of p ++ label ∷ []) + load_of_items problem (items_with problem p label)
+    ≡ load_of problem (range_of problem p) (labels_of p) + load_of_items problem (class_of label (labels_of p ++ label ∷ []) (range_of problem p)))
+load_put problem p label next b is low =
     let range = range_of problem p in
-    let signal = next_signal problem p label next b is in
-    let put = load_put problem range (labels_of p) label old low
-    (λ used. before problem (items_with problem p label) b are (used_signal problem p label b used))
-    (λ here. none (ap (λ (s : Sums). s.items) are ∙ ap length (class-unused (labels_of p) range label (omega (arith, here))))) in
-    let is_new : new ≡ load_of_items problem (class_of label (labels_of p ++ label ∷ []) range) = after problem (class_of label (labels_of p ++ label ∷ []) range) b will signal in
-    let all = loads_low problem range (labels_of p) b.stands (λ k lt. used_signal problem p k b lt) in
-    let one = load_low problem (class_of label (labels_of p ++ label ∷ []) range) b.stands signal in (
-      omega (arith, put.1, b.load),
-      omega (arith, all, b.load, classes_few problem p b, b.within, few problem p b),
-      omega (arith, one, is_new),
-      omega (arith, put.0, b.load, is_new),
+    let put = over_put (load_of_items problem) (no_load problem) range (labels_of p) label low in
+    let all = loads_low problem range (labels_of p) b.stands (λ k lt. used_signal problem p k b lt) in (
+      put.1,
+      omega (arith, all, classes_few problem p b, b.within, few problem p b),
+      load_low problem (class_of label (labels_of p ++ label ∷ []) range) b.stands (next_signal problem p label next b is),
+      put.0,
+    )
+
+-- the sender of an item is the least in its sums
+sender_is : (problem : Parts) (item : Item) (sums : Sums) → item.sender ≤ top → AreSums problem (item ∷ []) sums → sums.first_sender ≡ item.sender
+sender_is problem item sums low are =
+    let first : sums.first_sender ≡ fold min top (item.sender ∷ []) = ap (λ (s : Sums). s.first_sender) are in
+    let least : fold min top (item.sender ∷ []) ≡ item.sender = omega arith in
+    first ∙ least
+
+-- the sender of each item of a range is kept in its sums
+pub item_sender : (problem : Parts) (p : Partial) (i : ℕ) (d : Sums) (item : Item) → Belongs problem p → i < p.many → (get_or p.items.items i d).first_sender ≡ (get_or (range_of problem p) i item).sender
+item_sender problem p i d item b lt =
+    let here : i < length (range_of problem p) = omega (arith, lt, long problem p b) in
+    sender_is problem (get_or (range_of problem p) i item) (get_or p.items.items i d)
+    (in_range (λ (item : Item). item.sender ≤ top) p.first p.many problem.items b.inside (senders_low problem b.stands) i item here) (b.items i d item here)
+
+-- and that of the next item
+pub next_sender : (problem : Parts) (p : Partial) (next : Sums) (d : Item) → Belongs problem p → IsNext problem p next → next.first_sender ≡ (get_or (range_of problem p) (length (labels_of p)) d).sender
+next_sender problem p next d b is =
+    sender_is problem (get_or (range_of problem p) (length (labels_of p)) d) next
+    (in_range (λ (item : Item). item.sender ≤ top) p.first p.many problem.items b.inside (senders_low problem b.stands) (length (labels_of p)) d is.some) (is.sums d)
+
+-- a later item of a range is of no lower sender
+range_rises : (problem : Parts) (p : Partial) (i j : ℕ) (d e : Item) → Belongs problem p → i ≤ j → j < p.many → (get_or (range_of problem p) i d).sender ≤ (get_or (range_of problem p) j e).sender
+range_rises problem p i j d e b le lt =
+    let all = rises_at 0 problem.items (problem_rises problem b.stands) (p.first + i) (p.first + j) d e (omega (arith, le)) (omega (arith, lt, b.inside)) in
+    let one = ap (λ (x : Item). x.sender) (range_at p.first p.many problem.items i d (omega (arith, le, lt))) in
+    let other = ap (λ (x : Item). x.sender) (range_at p.first p.many problem.items j e lt) in
+    omega (arith, all, one, other)
+
+-- the sender in work is that of the last item with a label
+pub work_is : (problem : Parts) (p : Partial) (n : ℕ) (d : Item) → Belongs problem p → n + 1 ≡ p.count → sender_in_work (range_of problem p) (labels_of p) ≡ Some (get_or (range_of problem p) n d).sender
+work_is problem p n d b last =
+    ap (λ m. last_sender (take m (range_of problem p))) (counted problem p b ∙ sym last)
+    ∙ last-take (range_of problem p) n d (omega (arith, last, b.within, long problem p b))
+
+-- where the next item is of another sender, its sender has no classes yet
+pub other_sender : (problem : Parts) (p : Partial) (n s : ℕ) (d e : Item) → Belongs problem p → n + 1 ≡ p.count → p.count < p.many → (get_or (range_of problem p) p.count e).sender ≡ s
+    → ((get_or (range_of problem p) n d).sender ≡ s → ⊥) → slacks_of problem s (range_of problem p) (labels_of p) ≡ 0
+other_sender problem p n s d e b last some here other =
+    slacks_none problem s (range_of problem p) (labels_of p) (subst (λ m. All (λ (x : Item). nat_eq x.sender s ≡ false) (take m (range_of problem p))) (sym (counted problem p b)) earlier)
+  where
+    earlier : All (λ (x : Item). nat_eq x.sender s ≡ false) (take p.count (range_of problem p))
+    earlier i f lt =
+        let within : i < p.count = omega (arith, lt, length-take-le p.count (range_of problem p) (omega (arith, long problem p b, b.within))) in
+        let first = range_rises problem p i n f d b (omega (arith, within, last)) (omega (arith, last, some)) in
+        let second = range_rises problem p n p.count d e b (omega (arith, last)) some in
+        let at : get_or (take p.count (range_of problem p)) i f ≡ get_or (range_of problem p) i f = get_or-take p.count (range_of problem p) i f within in
+        ap (λ (x : Item). nat_eq x.sender s) at ∙ ne_eqb (get_or (range_of problem p) i f).sender s (λ same. other (let between : (get_or (range_of problem p) n d).sender ≡ s = omega (arith, first, second, here, same) in between))
+
+-- the slack with one more label
+pub slack_put : (problem : Parts) (p : Partial) (label : ℕ) (next : Sums) → Belongs problem p → IsNext problem p next → label ≤ classes_of (labels_of p)
+    → ClassStands (class_of label (labels_of p ++ label ∷ []) (range_of problem p))
+    → (slack_of problem (items_with problem p label) ≤ slacks_of problem next.first_sender (range_of problem p) (labels_of p))
+    × (slacks_of problem next.first_sender (range_of problem p) (labels_of p) ≤ 12800000000000000000000000)
+    × (slack_of problem (class_of label (labels_of p ++ label ∷ []) (range_of problem p)) ≤ 100000000000000000000000)
+    × (slack_at problem (range_of problem p) (labels_of p ++ label ∷ []) + slack_of problem (items_with problem p label)
+    ≡ slacks_of problem next.first_sender (range_of problem p) (labels_of p) + slack_of problem (class_of label (labels_of p ++ label ∷ []) (range_of problem p)))
+slack_put problem p label next b is low class =
+    let range = range_of problem p in
+    let n = length (labels_of p) in
+    let (item, at) = element range n is.some in
+    let put = slacks_put problem range (labels_of p) label item low (class_next label (labels_of p) range item is.some at) class in
+    let own : next.first_sender ≡ item.sender = next_sender problem p next item b is ∙ ap (λ (x : Item). x.sender) (sym at) in
+    let work : sender_in_work range (labels_of p ++ label ∷ []) ≡ Some item.sender =
+    ap (λ m. last_sender (take m range)) (length-append (labels_of p) (label ∷ [])) ∙ last-take range n item is.some ∙ ap (λ (x : Item). Some x.sender) (sym at) in
+    let after : slack_at problem range (labels_of p ++ label ∷ []) ≡ slacks_of problem item.sender range (labels_of p ++ label ∷ []) = ap (slack_in_work problem range (labels_of p ++ label ∷ [])) work in
+    let before : slacks_of problem next.first_sender range (labels_of p) ≡ slacks_of problem item.sender range (labels_of p) = ap (λ s. slacks_of problem s range (labels_of p)) own in (
+      omega (arith, put.1, before),
+      omega (arith, slacks_low problem next.first_sender range (labels_of p) b.stands, classes_few problem p b, b.within, few problem p b),
+      slack_low problem (class_of label (labels_of p ++ label ∷ []) range) b.stands,
+      omega (arith, put.0, after, before),
     )

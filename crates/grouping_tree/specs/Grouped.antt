@@ -1,14 +1,18 @@
 -- Running sums of a partial grouping of a range of items: the project's own.
-use Rattle.std.specs.Prelude.{ℕ, ◌≡◌, ◌<◌, ◌≤◌, ◌+◌, List, [], ◌∷◌, length, take, drop, slice_index, slice_index_or, Option, None, Some}
+use Rattle.std.specs.Prelude.{ℕ, ◌≡◌, ◌<◌, ◌≤◌, ◌+◌, ◌/◌, List, [], ◌∷◌, length, take, drop, slice_index, slice_index_or, Option, None, Some}
 use Rattle.pack_model.specs.declared.item.Item.{Item}
 use Rattle.pack_model.specs.Problem.{Parts, IsProblem, sent_by}
 use Rattle.class_frame.specs.Grouping.{class_of, classes_of}
+use Rattle.busy_period.specs.declared.timed.Timed.{Timed}
 use Rattle.class_frame.specs.Classes.{load_of}
+use Rattle.class_frame.specs.Frame.{load_of_items, period_of_items, timed_of_items}
 use Rattle.class_frame.specs.Sums.{AreSums}
 use Rattle.class_frame.specs.declared.sums.Sums.{Sums}
 use Rattle.grouping_tree.specs.Partial.{IsPartial}
 use Rattle.grouping_tree.specs.declared.partial.Partial.{Partial}
-use Rattle.grouping_tree.specs.declared.partial.Before.{Before}
+use Rattle.grouping_tree.specs.declared.partial.State.{State}
+use Rattle.grouping_tree.specs.declared.cost.Cost.{Cost}
+use Rattle.grouping_tree.specs.Slack.{sender_in_work, slack_in_work, slack_of}
 
 -- the number of items that the memory was taken for
 abbrev pub room_of : Partial → ℕ
@@ -39,11 +43,28 @@ items_with problem p label = class_of label (labels_of p) (range_of problem p)
 abbrev pub IsUsed : Partial → ℕ → Type 0
 IsUsed p label = label < classes_of (labels_of p)
 
--- what was kept before an item got its label, after some labels: the sums of the label's items, the number of classes and the load
-pub record IsBefore (problem : Parts) (range : List Item) (labels : List ℕ) (label : ℕ) (before : Before) : Type 0 where
-  pub sums : AreSums problem (class_of label labels range) before.sums
-  pub classes : before.classes ≡ classes_of labels
-  pub load : before.load ≡ load_of problem range labels
+-- the sums of each of some items
+abbrev pub AreEach : Parts → List Item → List Sums → Type 0
+AreEach problem items sums = (i : ℕ) (d : Sums) (item : Item) → i < length items → AreSums problem (slice_index_or items i item ∷ []) (slice_index_or sums i d)
+
+-- the slacks of the classes of the sender in work together
+abbrev pub slack_at : Parts → List Item → List ℕ → ℕ
+slack_at problem items labels = slack_in_work problem items labels (sender_in_work items labels)
+
+-- what a class costs in a common period: how often it is sent, its load and its slack
+pub record IsCost (problem : Parts) (items : List Item) (cost : Cost) : Type 0 where
+  pub share : cost.share ≡ problem.hyper / period_of_items problem items
+  pub load : cost.load ≡ load_of_items problem items
+  pub slack : cost.slack ≡ slack_of problem items
+
+-- what is kept of the class of a label after some labels, and of all classes: the sums of the label's items, what the class costs, the class as a frame, and the number of classes, the load and the slack
+pub record IsState (problem : Parts) (range : List Item) (labels : List ℕ) (label : ℕ) (state : State) : Type 0 where
+  pub sums : AreSums problem (class_of label labels range) state.sums
+  pub cost : IsCost problem (class_of label labels range) state.cost
+  pub frame : state.frame ≡ timed_of_items problem (class_of label labels range)
+  pub classes : state.classes ≡ classes_of labels
+  pub load : state.load ≡ load_of problem range labels
+  pub slack : state.slack ≡ slack_at problem range labels
 
 -- the problem stands, the range is there in it, has the sender's items and has room, the labels are a partial grouping of it, and what is kept is that of the labels: of all, and of those before each
 pub record Belongs (problem : Parts) (p : Partial) : Type 0 where
@@ -54,14 +75,21 @@ pub record Belongs (problem : Parts) (p : Partial) : Type 0 where
   pub range : range_of problem p ≡ items_in problem.items p.sender
   pub within : p.count ≤ p.many
   pub enough : p.many ≤ room_of p
+  pub items_room : length p.items.items ≡ room_of p
   pub sums_room : length p.sums.items ≡ room_of p
+  pub costs_room : length p.costs.items ≡ room_of p
+  pub frames_room : length p.frames.items ≡ room_of p
   pub before_room : length p.before.items ≡ room_of p
   pub legal : IsPartial (range_of problem p) (labels_of p)
   pub low : (i : ℕ) → i < p.count → slice_index p.labels.items i < room_of p
   pub classes : p.classes ≡ classes_of (labels_of p)
   pub load : p.load ≡ load_of problem (range_of problem p) (labels_of p)
+  pub slack : p.slack ≡ slack_at problem (range_of problem p) (labels_of p)
+  pub items : AreEach problem (range_of problem p) p.items.items
   pub sums : (label : ℕ) (d : Sums) → label < room_of p → AreSums problem (items_with problem p label) (slice_index_or p.sums.items label d)
-  pub before : (i : ℕ) (d : Before) → i < p.count → IsBefore problem (range_of problem p) (take i p.labels.items) (slice_index p.labels.items i) (slice_index_or p.before.items i d)
+  pub costs : (label : ℕ) (d : Cost) → label < room_of p → IsCost problem (items_with problem p label) (slice_index_or p.costs.items label d)
+  pub frames : (label : ℕ) (d : Timed) → label < room_of p → slice_index_or p.frames.items label d ≡ timed_of_items problem (items_with problem p label)
+  pub before : (i : ℕ) (d : State) → i < p.count → IsState problem (range_of problem p) (take i p.labels.items) (slice_index p.labels.items i) (slice_index_or p.before.items i d)
 
 -- an item is left, and these are its sums
 pub record IsNext (problem : Parts) (p : Partial) (next : Sums) : Type 0 where

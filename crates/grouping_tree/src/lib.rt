@@ -4,6 +4,7 @@
 //! that keep each class one that can become a frame.
 #![tactic(auto)]
 
+mod cost;
 mod laws;
 mod partial;
 mod walk;

@@ -1,24 +1,29 @@
 //! A partial grouping with its running sums.
-ghost use Rattle.std.specs.Prelude.{◌≡◌, ◌≤◌, ◌↔◌, IsTrue, ◌<◌, ◌+◌, ℕ, Some, None, List, [], ◌∷◌, ◌++◌, length, count_by, nat_eq, nat_lt, take, drop, slice_index, slice_index_or, IfOk, IfSome, MatchOption};
+ghost use Rattle.std.specs.Prelude.{◌≡◌, ◌≤◌, ◌↔◌, IsTrue, ◌<◌, ◌+◌, ◌*◌, ◌/◌, ℕ, Some, None, List, [], ◌∷◌, ◌++◌, length, count_by, nat_eq, nat_lt, take, drop, slice_index, slice_index_or, All, IfOk, IfSome, MatchOption};
 ghost use Rattle.busy_period.specs.Timed.{IsInRange};
 ghost use Rattle.pack_model.specs.Problem.{Parts, sent_by};
 ghost use Rattle.pack_model.specs.declared.item.Item.{Item};
-ghost use Rattle.class_frame.specs.Classes.{load_of};
-ghost use Rattle.class_frame.specs.Laws.{HasSignal};
-ghost use Rattle.class_frame.specs.Frame.{load_of_items, timed_of_items, weight_of_items, size_of_items};
+ghost use Rattle.response_test.specs.Queueing.{IsBit};
+ghost use Rattle.response_test.specs.Refuted.{IsCommon};
+ghost use Rattle.class_frame.specs.Classes.{frames_of_classes, load_of};
+ghost use Rattle.class_frame.specs.Frame.{timed_of_items, weight_of_items, size_of_items};
 ghost use Rattle.class_frame.specs.Grouping.{class_of, classes_of};
 ghost use Rattle.class_frame.specs.Sums.{AreSums, IsSmall};
 ghost use Rattle.class_frame.specs.declared.sums.Sums.{Sums};
 ghost use Rattle.grouping_tree.specs.Partial.{IsPartial, keeps_legal, options_of};
-ghost use Rattle.grouping_tree.specs.Grouped.{Belongs, IsNext, IsUsed, items_in, items_with, sender_of, labels_of, range_of, room_of};
+ghost use Rattle.grouping_tree.specs.Grouped.{AreEach, Belongs, IsCost, IsNext, IsState, IsUsed, items_in, items_with, sender_of, labels_of, range_of, room_of};
+ghost use Rattle.grouping_tree.specs.declared.cost.Cost.{Cost};
+ghost use Rattle.busy_period.specs.declared.timed.Timed.{Timed};
+ghost use Rattle.grouping_tree.specs.Slack.{sender_in_work, slack_in_work, slacks_of};
 ghost use Rattle.grouping_tree.specs.Walk.{options_from, places_below, places_left};
 
+use crate::cost::{Cost, no_frame, share_of};
 use busy_period::Timed;
 use class_frame::Sums;
 use pack_model::{Item, Memory, Network, Problem};
 use std::alloc::Global;
 
-/// The labels of the first items of a range, and the sums of each label's items.
+/// The labels of the first items of a range, and what is kept of each label's class.
 #[derive(Drop)]
 pub struct Partial {
     /// The problem's network.
@@ -37,23 +42,37 @@ pub struct Partial {
     classes: u32,
     /// The loads of these together.
     load: u128,
+    /// The slacks of those of the sender in work together.
+    slack: u128,
     /// The labels, and what is left of earlier ones.
     labels: Vec<u32>,
+    /// The sums of each item of the range.
+    items: Vec<Sums>,
     /// The sums of the items of each label.
     sums: Vec<Sums>,
+    /// What the class of each label costs.
+    costs: Vec<Cost>,
+    /// The class of each label as a frame.
+    frames: Vec<Timed>,
     /// What was kept before each item got its label.
-    before: Vec<Before>,
+    before: Vec<State>,
 }
 
-/// What was kept before an item got its label.
+/// What is kept of the class of a label and of all classes.
 #[derive(Clone, Copy, Debug, PartialEq, Eq)]
-struct Before {
+struct State {
     /// The sums of the items of the label.
     sums: Sums,
+    /// What their class costs.
+    cost: Cost,
+    /// The class as a frame.
+    frame: Timed,
     /// The number of classes.
     classes: u32,
     /// The loads of these together.
     load: u128,
+    /// The slacks of those of the sender in work together.
+    slack: u128,
 }
 
 impl Partial {
@@ -92,11 +111,17 @@ impl Partial {
         ensures room { IfOk result (λ partial. room_of partial ≡ length (items_in problem.now.items sender)) }
     {
         let place = place_in(problem, sender);
-        let none = Before {
+        let frame = no_frame(problem.network());
+        let none = State {
             sums: Sums::none(),
+            cost: Cost::none(),
+            frame,
             classes: 0,
             load: 0,
+            slack: 0,
         };
+        let mut items = vec![in alloc; none.sums; place.many]?;
+        write_sums(&mut items, problem, place);
         Ok(Partial {
             network: *problem.network(),
             hyper: problem.hyper(),
@@ -106,8 +131,12 @@ impl Partial {
             count: 0,
             classes: 0,
             load: 0,
+            slack: 0,
             labels: vec![in alloc; 0; place.many]?,
-            sums: vec![in alloc; Sums::none(); place.many]?,
+            items,
+            sums: vec![in alloc; none.sums; place.many]?,
+            costs: vec![in alloc; none.cost; place.many]?,
+            frames: vec![in alloc; none.frame; place.many]?,
             before: vec![in alloc; none; place.many]?,
         })
     }
@@ -134,7 +163,14 @@ impl Partial {
         self.count = 0;
         self.classes = 0;
         self.load = 0;
-        clear(&mut self.sums);
+        self.slack = 0;
+        write_sums(&mut self.items, problem, place);
+        clear(
+            &mut self.sums,
+            &mut self.costs,
+            &mut self.frames,
+            no_frame(problem.network()),
+        );
     }
 
     /// The number of the sender whose items the range has; none over all items.
@@ -181,7 +217,7 @@ impl Partial {
         if self.count == self.many {
             return 0;
         }
-        let next = self.next_sums(problem);
+        let next = self.next_sums();
         let mut count = 0;
         for label in 0..self.classes + 1 {
             if self.may_put(label, next) {
@@ -197,7 +233,7 @@ impl Partial {
         requires below { k < length (options_of (range_of problem.now self.now) (labels_of self.now)) }
         ensures { result ≡ slice_index (options_of (range_of problem.now self.now) (labels_of self.now)) k }
     {
-        let next = self.next_sums(problem);
+        let next = self.next_sums();
         let mut before = k;
         for label in 0..self.classes + 1 {
             if self.may_put(label, next) {
@@ -223,7 +259,7 @@ impl Partial {
         if self.count == self.many {
             return None;
         }
-        let next = self.next_sums(problem);
+        let next = self.next_sums();
         for label in from..self.classes + 1 {
             if self.may_put(label, next) {
                 return Some(label);
@@ -233,12 +269,12 @@ impl Partial {
     }
 
     /// The sums of the next item of the range.
-    fn next_sums(&self, problem: &Problem) -> Sums
-        requires belongs { Belongs problem.now self.now }
-        requires some { length (labels_of self.now) < length (range_of problem.now self.now) }
-        ensures { IsNext problem.now self.now result }
+    fn next_sums(&self) -> Sums
+        requires { (problem : Parts) × Belongs problem self.now
+            × (length (labels_of self.now) < length (range_of problem self.now)) }
+        ensures { (problem : Parts) → Belongs problem self.now → IsNext problem self.now result }
     {
-        Sums::of(problem, &problem.items()[self.first + self.count])
+        self.items[self.count]
     }
 
     /// The sums of the items of a label together with the next item, whose sums are `next`.
@@ -263,19 +299,69 @@ impl Partial {
         self.sums_with(label, next).stands()
     }
 
-    /// The load of a class with these sums: 0 where it has no items.
-    fn load_with(&self, sums: Sums) -> u128
-        requires small { IsSmall sums }
-        requires known { (problem : Parts) × (items : List Item) × Belongs problem self.now
-            × AreSums problem items sums × (1 ≤ length items → HasSignal problem items) }
-        ensures none { sums.items ≡ 0 → result ≡ 0 }
-        ensures load { (problem : Parts) (items : List Item) → Belongs problem self.now
-            → AreSums problem items sums → HasSignal problem items → result ≡ load_of_items problem items }
+    /// What is kept of the class of a label, and of all classes.
+    fn state(&self, label: u32) -> State
+        requires belongs { (problem : Parts) × Belongs problem self.now }
+        requires low { label < room_of self.now }
+        ensures { (problem : Parts) → Belongs problem self.now
+            → IsState problem (range_of problem self.now) (labels_of self.now) label result }
     {
-        if sums.items == 0 {
-            0
+        let place = label as usize;
+        State {
+            sums: self.sums[place],
+            cost: self.costs[place],
+            frame: self.frames[place],
+            classes: self.classes,
+            load: self.load,
+            slack: self.slack,
+        }
+    }
+
+    /// The same once the next item has the label too: one that may be put next, of which `before` is kept.
+    fn with_next(&self, label: u32, before: State) -> State
+        requires { (problem : Parts) × Belongs problem self.now
+            × IsPartial (range_of problem self.now) (labels_of self.now ++ label ∷ [])
+            × IsState problem (range_of problem self.now) (labels_of self.now) label before }
+        ensures { (problem : Parts) → Belongs problem self.now
+            → IsPartial (range_of problem self.now) (labels_of self.now ++ label ∷ [])
+            → IsState problem (range_of problem self.now) (labels_of self.now) label before
+            → IsState problem (range_of problem self.now) (labels_of self.now ++ label ∷ []) label result }
+    {
+        let next = self.next_sums();
+        let sums = before.sums.join(next);
+        let frame = sums.timed(&self.network);
+        let share = share_of(
+            self.hyper,
+            frame.period,
+            before.frame.period,
+            before.cost.share,
+        );
+        let cost = Cost::of(&self.network, sums, frame, share);
+        let other_loads = self.load - before.cost.load;
+        let other_slacks = self.slacks_beside(next) - before.cost.slack;
+        State {
+            sums,
+            cost,
+            frame,
+            classes: self.classes.max(label + 1),
+            load: other_loads + cost.load,
+            slack: other_slacks + cost.slack,
+        }
+    }
+
+    /// The slacks of the classes of the next item's sender together.
+    fn slacks_beside(&self, next: Sums) -> u128
+        requires { (problem : Parts) × Belongs problem self.now × IsNext problem self.now next }
+        ensures { (problem : Parts) → Belongs problem self.now → IsNext problem self.now next
+            → result ≡ slacks_of problem next.first_sender (range_of problem self.now) (labels_of self.now) }
+    {
+        if self.count == 0 {
+            return 0;
+        }
+        if self.items[self.count - 1].first_sender == next.first_sender {
+            self.slack
         } else {
-            sums.load(&self.network, self.hyper)
+            0
         }
     }
 
@@ -289,22 +375,16 @@ impl Partial {
         ensures sender { sender_of self.new ≡ sender_of self.old }
         ensures room { room_of self.new ≡ room_of self.old }
     {
-        let next = self.next_sums(problem);
-        let with_next = self.sums_with(label, next);
-        let sums = self.sums[label as usize];
-        let load_before = self.load_with(sums);
-        let load_with_next = self.load_with(with_next);
-        let rest = self.load - load_before;
-        let load = rest + load_with_next;
-        self.before[self.count] = Before {
-            sums,
-            classes: self.classes,
-            load: self.load,
-        };
+        let before = self.state(label);
+        let after = self.with_next(label, before);
+        self.before[self.count] = before;
         self.labels[self.count] = label;
-        self.sums[label as usize] = with_next;
-        self.classes = self.classes.max(label + 1);
-        self.load = load;
+        self.sums[label as usize] = after.sums;
+        self.costs[label as usize] = after.cost;
+        self.frames[label as usize] = after.frame;
+        self.classes = after.classes;
+        self.load = after.load;
+        self.slack = after.slack;
         self.count += 1;
     }
 
@@ -322,8 +402,11 @@ impl Partial {
         let before = self.before[self.count];
         let label = self.labels[self.count];
         self.sums[label as usize] = before.sums;
+        self.costs[label as usize] = before.cost;
+        self.frames[label as usize] = before.frame;
         self.classes = before.classes;
         self.load = before.load;
+        self.slack = before.slack;
     }
 
     /// What is kept of the class of a used label, for every problem to which the partial grouping belongs.
@@ -353,6 +436,32 @@ impl Partial {
             → result ≡ load_of problem (range_of problem self.now) (labels_of self.now) }
     {
         self.load
+    }
+
+    /// The slacks of the classes of the sender in work together, in eighths of ticks of a common period, 0
+    /// where no item is placed, for every problem to which the partial grouping belongs.
+    pub fn kept_slack(&self) -> u128
+        requires { (problem : Parts) × Belongs problem self.now }
+        ensures { (problem : Parts) → Belongs problem self.now
+            → result ≡ slack_in_work problem (range_of problem self.now) (labels_of self.now)
+            (sender_in_work (range_of problem self.now) (labels_of self.now)) }
+    {
+        self.slack
+    }
+
+    /// The classes as frames, by label, in ticks, for every problem to which the partial grouping belongs.
+    pub fn frames(&self) -> &[Timed]
+        requires { (problem : Parts) × Belongs problem self.now }
+        ensures value { (problem : Parts) → Belongs problem self.now
+            → result.now ≡ frames_of_classes problem (range_of problem self.now) (labels_of self.now) }
+        ensures in_range { All IsInRange result.now }
+        ensures count { length result.now ≡ classes_of (labels_of self.now) }
+        ensures few { length result.now ≤ 128 }
+        ensures bit { (problem : Parts) → Belongs problem self.now
+            → IsBit result.now problem.network.nominal_ticks }
+        ensures common { (problem : Parts) → Belongs problem self.now → IsCommon result.now problem.hyper }
+    {
+        &self.frames[..self.classes as usize]
     }
 
     /// The class of a used label as a frame, in ticks.
@@ -436,14 +545,36 @@ fn count_of(items: &[Item], sender: u32) -> usize
     items.iter().filter(|item| item.sender == sender).count()
 }
 
-/// Makes all sums those of no items.
-fn clear(sums: &mut Vec<Sums>)
+/// Writes the sums of each item of a range.
+fn write_sums(sums: &mut Vec<Sums>, problem: &Problem, place: Place)
+    requires room { place.many ≤ length sums.old.items }
+    requires inside { place.first + place.many ≤ length problem.now.items }
     ensures room { length sums.new.items ≡ length sums.old.items }
-    ensures none { (problem : Parts) (label : ℕ) (d : Sums) → label < length sums.new.items
+    ensures each { AreEach problem.now (take place.many (drop place.first problem.now.items)) sums.new.items }
+{
+    for number in 0..place.many {
+        sums[number] = Sums::of(problem, &problem.items()[place.first + number]);
+    }
+}
+
+/// Makes all classes those of no items, whose frame is `frame`.
+fn clear(sums: &mut Vec<Sums>, costs: &mut Vec<Cost>, frames: &mut Vec<Timed>, frame: Timed)
+    requires costs { length costs.old.items ≡ length sums.old.items }
+    requires frames { length frames.old.items ≡ length sums.old.items }
+    ensures sums_room { length sums.new.items ≡ length sums.old.items }
+    ensures costs_room { length costs.new.items ≡ length sums.old.items }
+    ensures frames_room { length frames.new.items ≡ length sums.old.items }
+    ensures sums { (problem : Parts) (label : ℕ) (d : Sums) → label < length sums.old.items
         → AreSums problem [] (slice_index_or sums.new.items label d) }
+    ensures costs { (problem : Parts) (label : ℕ) (d : Cost) → label < length sums.old.items
+        → IsCost problem [] (slice_index_or costs.new.items label d) }
+    ensures frames { (label : ℕ) (d : Timed) → label < length sums.old.items
+        → slice_index_or frames.new.items label d ≡ frame }
 {
     let many = sums.len();
     for label in 0..many {
         sums[label] = Sums::none();
+        costs[label] = Cost::none();
+        frames[label] = frame;
     }
 }

@@ -1,5 +1,5 @@
-//! Two signals of one byte every 10 ms, of one sender.
-ghost use Rattle.std.specs.Prelude.{◌≡◌};
+//! Two signals of one length every 10 ms, of one sender.
+ghost use Rattle.std.specs.Prelude.{◌≡◌, ◌≤◌};
 ghost use Rattle.pack_model.specs.Signal.{SignalStands};
 ghost use Rattle.grouping_tree.specs.Grouped.{Belongs, range_of};
 
@@ -10,15 +10,17 @@ use std::process::Abort;
 
 fn are_shared<T: Send + Sync>() {}
 
-/// A signal of one byte every 10 ms.
-fn signal(rt: &impl Abort, alloc: Global, name: &[u8]) -> Signal
+/// A signal of so many bits every 10 ms.
+fn signal(rt: &impl Abort, alloc: Global, name: &[u8], bits: u32) -> Signal
+    requires some { 1 ≤ bits }
+    requires few { bits ≤ 8 }
     ensures { SignalStands result }
 {
     Signal {
         name: Name::new(alloc, name).expect(rt, "a name"),
         sender: Name::new(alloc, b"ECU1").expect(rt, "a name"),
         pdu: None,
-        bits: 8,
+        bits,
         period_us: 10_000,
         deadline_us: 10_000,
         jitter_us: 0,
@@ -26,15 +28,18 @@ fn signal(rt: &impl Abort, alloc: Global, name: &[u8]) -> Signal
 }
 
 /// Their problem.
-fn two_signals(rt: &impl Abort, alloc: Global) -> Problem {
+fn two_signals(rt: &impl Abort, alloc: Global, bits: u32) -> Problem
+    requires some { 1 ≤ bits }
+    requires few { bits ≤ 8 }
+{
     let network = Network {
         ticks_per_us: 80,
         nominal_ticks: 160,
         data_ticks: 40,
         first_id: 256,
     };
-    let first = signal(rt, alloc, b"S1");
-    let second = signal(rt, alloc, b"S2");
+    let first = signal(rt, alloc, b"S1", bits);
+    let second = signal(rt, alloc, b"S2", bits);
     let signals = Vec::from_array(alloc, [first, second]).expect(rt, "memory");
     problem_of(alloc, network, signals).expect(rt, "a problem")
 }
@@ -55,7 +60,7 @@ fn go_down(partial: &mut Partial, problem: &Problem)
 #[test]
 fn together_and_apart(rt: HostRuntime) {
     are_shared::<Partial>();
-    let problem = two_signals(&rt, rt.alloc());
+    let problem = two_signals(&rt, rt.alloc(), 8);
     let mut partial = Partial::whole(rt.alloc(), &problem).expect(&rt, "memory");
     assert_eq!(rt; partial.options(&problem), 1);
     go_down(&mut partial, &problem);
@@ -77,4 +82,21 @@ fn together_and_apart(rt: HostRuntime) {
         again.restart(&problem, Some(0));
         assert_eq!(rt; again.range(), Some(0));
     }
+}
+
+/// Signals of half a byte leave 4 bits free apart, of 10 times 40 eighths each, and none together.
+#[test]
+fn slack_and_frames(rt: HostRuntime) {
+    let problem = two_signals(&rt, rt.alloc(), 4);
+    let mut partial = Partial::whole(rt.alloc(), &problem).expect(&rt, "memory");
+    assert_eq!(rt; partial.kept_slack(), 0);
+    assert_eq!(rt; partial.frames().len(), 0);
+    go_down(&mut partial, &problem);
+    assert_eq!(rt; partial.kept_slack(), 1600);
+    go_down(&mut partial, &problem);
+    assert_eq!(rt; partial.kept_slack(), 0);
+    assert_eq!(rt; partial.frames().len(), 1);
+    assert!(rt; partial.leave(&problem, 0));
+    assert_eq!(rt; partial.kept_slack(), 3200);
+    assert_eq!(rt; partial.frames().len(), 2);
 }

@@ -3,17 +3,17 @@ use Rattle.std.specs.Prelude.{ℕ, ◌≡◌, ◌≤◌, ◌<◌, ⊤, List, [],
 use Rattle.pack_model.specs.Problem.{Parts}
 use Rattle.busy_period.specs.declared.timed.Timed.{Timed}
 use Rattle.response_test.specs.declared.evidence.Evidence.{Evidence}
-use Rattle.response_test.specs.Order.{OrderPasses, others_of}
-use Rattle.response_test.specs.Refuted.{IsEvidenceOfStage}
+use Rattle.response_test.specs.Order.{OrderPasses}
 use Rattle.priority_assign.specs.Lowest.{IsLowestFirst}
 use Rattle.class_frame.specs.Classes.{frames_of_classes, load_of}
 use Rattle.grouping_tree.specs.Grouped.{items_in}
 use Rattle.bandwidth_bound.specs.Bounds.{Reaches}
-use Rattle.bandwidth_bound.specs.Failing.{numbers_of, order_below}
+use Rattle.bandwidth_bound.specs.Failing.{numbers_of}
 use Rattle.bandwidth_bound.specs.Goals.{eighths}
 use Rattle.bandwidth_bound.specs.Prices.{lower8_of}
 use Rattle.tree_search.specs.declared.finding.Finding.{Finding}
 use Rattle.tree_search.specs.declared.finding.Finding.TheVariants.{Bounded, Failed, Complete, Parted}
+use Rattle.search_judge.specs.Stuck.{HasEvidence}
 
 -- the frames that are named are those that lowest-priority-first assignment leaves without a place, ascending;
 -- each has the one evidence that it doesn't pass below the other ones and above all remaining ones
@@ -22,8 +22,7 @@ pub record NamesStuck (frames : List Timed) (bit hyper : ℕ) (named : List (ℕ
   pub lowest_first : IsLowestFirst frames bit (length named) order
   pub some : 1 ≤ length named
   pub are : numbers_of named ≡ take (length named) order
-  pub evidence : All (λ entry. IsEvidenceOfStage frames (order_below frames (numbers_of named) entry.0)
-      (length (others_of entry.0 (numbers_of named))) bit hyper entry.1) named
+  pub evidence : All (HasEvidence frames bit hyper (numbers_of named)) named
 
 -- the classes so far of all items as frames
 abbrev pub frames_at : Parts → List ℕ → List Timed

@@ -1,5 +1,5 @@
 -- The judge of a search, and what it judges.
-use Rattle.std.specs.Prelude.{ℕ, ◌≡◌, List, length, Option}
+use Rattle.std.specs.Prelude.{ℕ, ◌≡◌, List, [], length, take, Option, None, Some}
 use Rattle.pack_model.specs.declared.item.Item.{Item}
 use Rattle.pack_model.specs.Problem.{Parts}
 use Rattle.grouping_tree.specs.Grouped.{items_in}
@@ -17,3 +17,15 @@ pub record IsJudge (problem : Parts) (range : Option ℕ) (values : List ℕ) (j
 pub record JudgesOver (problem : Parts) (items : List Item) (judge : SearchJudge) : Type 0 where
   pub judge_is : IsJudge problem judge.range judge.values.items judge
   pub items_are : items ≡ items_in problem.items judge.range
+
+-- a judge is as before but for the room
+pub record KeepsJudge (old new : SearchJudge) : Type 0 where
+  pub range_is : new.range ≡ old.range
+  pub values_are : new.values.items ≡ old.values.items
+  pub floors_are : new.floors ≡ old.floors
+  pub room : length new.order.items ≡ length old.order.items
+
+-- the order of so many classes that is kept in the room; over one sender's items there is none
+abbrev pub order_kept : Option ℕ → ℕ → List ℕ → List ℕ
+order_kept None count order = take count order
+order_kept (Some sender) count order = []

@@ -1,3 +1,4 @@
 pub mod Findings
 pub mod Judges
 pub mod Laws
+pub mod Stuck

@@ -7,6 +7,9 @@
 
 mod judge;
 mod laws;
+mod stuck;
+#[cfg(test)]
+mod tests;
 
 pub use judge::SearchJudge;
 pub use laws::{findings_show, one_is_found};

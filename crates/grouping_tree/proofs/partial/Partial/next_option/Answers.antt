@@ -2,7 +2,7 @@ use Rattle.std.proofs.Common.{◌<◌, ◌+◌, sym, ◌∙◌, arith}
 use Rattle.class_frame.specs.Grouping.{classes_of}
 use Rattle.grouping_tree.specs.Grouped.{labels_of, range_of}
 use Rattle.grouping_tree.proofs.Puts.{put-legal}
-use Rattle.grouping_tree.proofs.Used.{few, classes_few}
+use Rattle.grouping_tree.proofs.Used.{counted, few, classes_few, long}
 use Rattle.grouping_tree.proofs.Walks.{from-here, from-next, from-past}
 use Rattle.grouping_tree.proofs.partial.Partial.next_option.Goals as goal
 
@@ -14,7 +14,7 @@ overflow_add-label-end c =
 pub returns-then-may_put-clause-option : goal.returns-then-may_put-clause-option
 returns-then-may_put-clause-option c =
     let b = c.requires in
-    let next = c.next_sums-next.ensures in
+    let next = c.next_sums-next.ensures c.args.problem.now b in
     let low : c.loop-label.label < classes_of (labels_of c.args.self.now) + 1 = omega (arith, b.classes, c.loop-label-test.true) in
     c.loop-label.invariant ∙ from-here (range_of c.args.problem.now c.args.self.now) (labels_of c.args.self.now) c.loop-label.label next.some low
     (sym (c.may_put.ensures c.args.problem.now b next) ∙ c.if-may_put.true)
@@ -22,7 +22,7 @@ returns-then-may_put-clause-option c =
 pub returns-then-may_put-clause-legal : goal.returns-then-may_put-clause-legal
 returns-then-may_put-clause-legal c =
     let b = c.requires in
-    let next = c.next_sums-next.ensures in
+    let next = c.next_sums-next.ensures c.args.problem.now b in
     let low : c.loop-label.label < classes_of (labels_of c.args.self.now) + 1 = omega (arith, b.classes, c.loop-label-test.true) in
     put-legal (range_of c.args.problem.now c.args.self.now) (labels_of c.args.self.now) c.loop-label.label b.legal next.some (omega (arith, low))
     (sym (c.may_put.ensures c.args.problem.now b next) ∙ c.if-may_put.true)
@@ -30,7 +30,7 @@ returns-then-may_put-clause-legal c =
 pub loop-label-preserved : goal.loop-label-preserved
 loop-label-preserved c =
     let b = c.requires in
-    let next = c.next_sums-next.ensures in
+    let next = c.next_sums-next.ensures c.args.problem.now b in
     let low : c.loop-label.label < classes_of (labels_of c.args.self.now) + 1 = omega (arith, b.classes, c.loop-label-test.true) in
     c.loop-label.invariant ∙ from-next (range_of c.args.problem.now c.args.self.now) (labels_of c.args.self.now) c.loop-label.label next.some low
     (sym (c.may_put.ensures c.args.problem.now b next) ∙ c.if-may_put.false)
@@ -38,3 +38,9 @@ loop-label-preserved c =
 pub returns-clause-option : goal.returns-clause-option
 returns-clause-option c =
     c.loop-label.invariant ∙ from-past (range_of c.args.problem.now c.args.self.now) (labels_of c.args.self.now) c.loop-label.label (omega (arith, c.requires.classes, c.loop-label-test.false))
+
+pub next_sums-next-requires : goal.next_sums-next-requires
+next_sums-next-requires c =
+    let problem = c.args.problem.now in
+    let p = c.args.self.now in
+    (problem, c.requires, omega (arith, counted problem p c.requires, long problem p c.requires, c.requires.within))

@@ -22,7 +22,7 @@ returns-then-before-eq0 c =
     let b = c.requires.belongs in
     let range = range_of c.args.problem.now c.args.self.now in
     let labels = labels_of c.args.self.now in
-    let next = c.next_sums-next.ensures in
+    let next = c.next_sums-next.ensures c.args.problem.now b in
     let low : c.loop-label.label < classes_of labels + 1 = omega (arith, b.classes, c.loop-label-test.true) in
     let here = from-here range labels c.loop-label.label next.some low (sym (c.may_put.ensures c.args.problem.now b next) ∙ c.if-may_put.true) in
     sym (c.loop-label.invariant.same ∙ ap (λ k. get_or (options_from range labels c.loop-label.label) k 0) c.if-before-eq0.true ∙ ap (λ ls. get_or ls 0 0) here)
@@ -32,7 +32,7 @@ loop-label-preserved c =
     let b = c.requires.belongs in
     let range = range_of c.args.problem.now c.args.self.now in
     let labels = labels_of c.args.self.now in
-    let next = c.next_sums-next.ensures in
+    let next = c.next_sums-next.ensures c.args.problem.now b in
     let low : c.loop-label.label < classes_of labels + 1 = omega (arith, b.classes, c.loop-label-test.true) in
     elim c.if-may_put.branch [
       | then-may_put+else-before-eq0 w ↦
@@ -50,8 +50,9 @@ loop-label-preserved c =
           }
     ]
 
-pub next_sums-next-requires-clause-some : goal.next_sums-next-requires-clause-some
-next_sums-next-requires-clause-some c = option_left (range_of c.args.problem.now c.args.self.now) (labels_of c.args.self.now) c.args.k c.requires.below
+pub next_sums-next-requires : goal.next_sums-next-requires
+next_sums-next-requires c =
+    (c.args.problem.now, c.requires.belongs, option_left (range_of c.args.problem.now c.args.self.now) (labels_of c.args.self.now) c.args.k c.requires.below)
 
 pub unreachable-requires : goal.unreachable-requires
 unreachable-requires c =

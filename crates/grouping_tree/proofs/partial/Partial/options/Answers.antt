@@ -1,7 +1,7 @@
 use Rattle.std.proofs.Common.{◌<◌, ◌+◌, length, sym, ◌∙◌, arith, ap}
 use Rattle.class_frame.specs.Grouping.{classes_of}
 use Rattle.grouping_tree.specs.Grouped.{labels_of, range_of}
-use Rattle.grouping_tree.proofs.Used.{few, classes_few}
+use Rattle.grouping_tree.proofs.Used.{counted, few, classes_few, long}
 use Rattle.grouping_tree.proofs.Walks.{from-all, from-here, from-next, from-past}
 use Rattle.grouping_tree.proofs.partial.Partial.options.Goals.{then-may_put, else-may_put}
 use Rattle.grouping_tree.proofs.partial.Partial.options.Goals as goal
@@ -22,7 +22,7 @@ loop-label-preserved c =
     let b = c.requires in
     let range = range_of c.args.problem.now c.args.self.now in
     let labels = labels_of c.args.self.now in
-    let next = c.next_sums-next.ensures in
+    let next = c.next_sums-next.ensures c.args.problem.now b in
     let low : c.loop-label.label < classes_of labels + 1 = omega (arith, b.classes, c.loop-label-test.true) in
     elim c.if-may_put.branch [
       | then-may_put w ↦ record {
@@ -38,3 +38,9 @@ loop-label-preserved c =
 pub returns : goal.returns
 returns c =
     omega (arith, c.loop-label.invariant.all, ap length (from-past (range_of c.args.problem.now c.args.self.now) (labels_of c.args.self.now) c.loop-label.label (omega (arith, c.requires.classes, c.loop-label-test.false))))
+
+pub next_sums-next-requires : goal.next_sums-next-requires
+next_sums-next-requires c =
+    let problem = c.args.problem.now in
+    let p = c.args.self.now in
+    (problem, c.requires, omega (arith, counted problem p c.requires, long problem p c.requires, c.requires.within))

@@ -1,0 +1,5 @@
+pub mod Asked
+pub mod Evidences
+pub mod Members
+pub mod Named
+pub mod Shows
