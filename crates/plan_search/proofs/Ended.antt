@@ -26,10 +26,11 @@ use Rattle.tree_search.specs.Trim.{reaches}
 use Rattle.tree_search.proofs.Counts.{is_trimmed, open-trim}
 use Rattle.tree_search.proofs.Firsts.{has_open-is, is_more}
 use Rattle.tree_search.proofs.Standing.{stands-along, stands-closed, stands-trim}
+use Rattle.plan_search.specs.Begin.{FoundStands}
 use Rattle.plan_search.specs.declared.planned.Planned.{Planned}
 use Rattle.plan_search.specs.declared.planned.Planned.TheVariants as planned
-use Rattle.plan_search.specs.Plan.{Ends, FoundStands, IsShownBy, IsTrimmedPlan, LemmaIsTrimmed, MainIsTrimmed, best_cert, cert_of_plan, judged_plan, load_found, none_cert, open_cert, verdict_of_plan}
-use Rattle.plan_search.specs.Searches.{IsTrimmedIn, trimmed}
+use Rattle.plan_search.specs.Plan.{Ends, IsShownBy, IsTrimmedPlan, MainIsTrimmed, best_cert, cert_of_plan, judged_plan, load_found, none_cert, open_cert, verdict_of_plan}
+use Rattle.plan_search.specs.Searches.{IsTrimmedIn, trimmed, LemmaIsTrimmed}
 use Rattle.plan_search.proofs.FewSenders.{senders_few}
 use Rattle.plan_search.proofs.Founds.{best, grouping, lines_have_room, placed, timing}
 use Rattle.plan_search.proofs.TreeFits.{standing_fits}
@@ -115,26 +116,26 @@ module _ (problem : Parts) (stands : IsProblem problem) (sorted : IsSorted probl
   module _ (found : Found) (is : FoundStands problem found) (rows : List MatrixRow) (lines : List FrameLine)
       (shown : IsShownBy problem found rows lines) (h : StandsWith (Some found.load)) where
     the_best : best_of problem rows ≡ Some found.load
-    the_best = best problem stands sorted found.labels is.0.legal found.order is.1.lowest_first rows shown.matrix
-        ∙ ap Some (sym is.1.load_is)
+    the_best = best problem stands sorted found.labels is.legal found.order is.lowest_first rows shown.matrix
+        ∙ ap Some (sym is.load_is)
 
     the_load : load_of problem problem.items (grouping_of problem rows) ≡ found.load
     the_load =
         ap (load_of problem problem.items)
-        (grouping problem stands sorted found.labels is.0.legal found.order is.1.lowest_first rows shown.matrix)
-        ∙ sym is.1.load_is
+        (grouping problem stands sorted found.labels is.legal found.order is.lowest_first rows shown.matrix)
+        ∙ sym is.load_is
 
     the_matrix : Placed problem rows
     the_matrix =
-        placed problem stands sorted found.labels is.0.legal found.order is.1.lowest_first rows shown.matrix
+        placed problem stands sorted found.labels is.legal found.order is.lowest_first rows shown.matrix
 
     the_timing : TimingStands problem rows lines
-    the_timing = timing problem stands sorted found.labels is.0.legal found.order is.1.lowest_first rows shown.matrix
+    the_timing = timing problem stands sorted found.labels is.legal found.order is.lowest_first rows shown.matrix
         lines shown.lines_are
 
     the_lines : All HasRoom lines
     the_lines =
-        lines_have_room problem stands sorted found.labels is.0.legal found.order is.1.lowest_first lines shown.lines_are
+        lines_have_room problem stands sorted found.labels is.legal found.order is.lowest_first lines shown.lines_are
 
     best_accepted : has_open tree ≡ false → (cert : CertParts)
         → cert ≡ best_cert problem lines lemmas found.load tree

@@ -1,9 +1,13 @@
 pub mod Accepted
+pub mod Beginnings
+pub mod BySender
+pub mod Counting
 pub mod Ended
 pub mod FewSenders
 pub mod Firsts
 pub mod Founds
 pub mod LeastLines
+pub mod LemmaValues
 pub mod OnePlan
 pub mod OnePlanOf
 pub mod OneSearch
@@ -13,6 +17,10 @@ pub mod Plans
 pub mod Pushed
 pub mod SearchEnds
 pub mod SearchLaws
+pub mod Sought
+pub mod Spends
 pub mod TreeFits
+pub mod TurnLaws
+pub mod TurnSteps
 pub mod Values
 pub mod Within

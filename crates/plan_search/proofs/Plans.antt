@@ -15,8 +15,8 @@ use Rattle.plan_search.specs.declared.planned.Planned.{Planned}
 use Rattle.plan_search.specs.declared.searching.Ended.{Ended}
 use Rattle.plan_search.specs.Begin.{Begins}
 use Rattle.plan_search.specs.Ending.{IsEnded, final_tree, plan_with, plan_without}
-use Rattle.plan_search.specs.Plan.{Ends, IsPlanOf, IsShownBy, IsTrimmedPlan, IsWithin, LemmaIsTrimmed, best_cert, cert_of_plan, judged_plan, load_found, verdict_of_plan}
-use Rattle.plan_search.specs.Searches.{nodes_of_lemmas}
+use Rattle.plan_search.specs.Plan.{Ends, IsPlanOf, IsShownBy, IsTrimmedPlan, IsWithin, best_cert, cert_of_plan, judged_plan, load_found, verdict_of_plan}
+use Rattle.plan_search.specs.Searches.{nodes_of_lemmas, LemmaIsTrimmed}
 use Rattle.plan_search.proofs.Ended.{ends_accepted, ends_fits, ends_trimmed}
 use Rattle.plan_search.proofs.Within.{ends_within}
 

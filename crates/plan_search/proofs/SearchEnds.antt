@@ -24,9 +24,10 @@ use Rattle.tree_search.specs.Step.{Searched, Steps}
 use Rattle.tree_search.specs.Trim.{reaches, trim}
 use Rattle.tree_search.proofs.Counts.{nodes_of-shown}
 use Rattle.tree_search.proofs.Firsts.{has_open-is, is_more}
+use Rattle.plan_search.specs.Begin.{FoundStands}
 use Rattle.plan_search.specs.declared.searching.Ended.{Ended}
 use Rattle.plan_search.specs.Ending.{IsEnded, final_tree}
-use Rattle.plan_search.specs.Plan.{FoundStands, last_found, load_found}
+use Rattle.plan_search.specs.Plan.{last_found, load_found}
 use Rattle.plan_search.specs.Searches.{begun_with, trimmed}
 use Rattle.plan_search.proofs.SearchLaws.{IsAlong, begins_along, steps_along}
 
@@ -50,9 +51,9 @@ pub found_fits : (problem : Parts) → IsProblem problem → LoadsFit → (found
 found_fits problem stands fit None is = tt
 found_fits problem stands fit (Some found) is =
     let low = fit problem stands problem.items (All-contains_itself problem.items) found.labels
-        (legal-partial problem.items found.labels is.0.legal)
-        (omega (arith, is.0.legal.grouping.each, (tests problem stands).few_items)) in
-    rw is.1.load_is low
+        (legal-partial problem.items found.labels is.legal)
+        (omega (arith, is.legal.grouping.each, (tests problem stands).few_items)) in
+    rw is.load_is low
 
 module _ (problem : Parts) (stands : IsProblem problem) (sorted : IsSorted problem.signals problem.items)
     (shows : FindingsShow) (values : List ℕ) (first : Option Found) (is : IfSome first (FoundStands problem))

@@ -22,7 +22,8 @@ use Rattle.tree_search.specs.declared.finding.Finding.TheVariants.{Bounded, Fail
 use Rattle.tree_search.specs.declared.finding.Found.{Found}
 use Rattle.tree_search.specs.Step.{Searched, Step, Steps, after, best_after, found_after}
 use Rattle.tree_search.proofs.Standing.{step-stands}
-use Rattle.plan_search.specs.Plan.{FoundStands, last_found, load_found}
+use Rattle.plan_search.specs.Begin.{FoundStands}
+use Rattle.plan_search.specs.Plan.{last_found, load_found}
 use Rattle.plan_search.specs.Searches.{begun_with}
 use Rattle.plan_search.proofs.Founds.{order_passes}
 
@@ -101,10 +102,12 @@ module _ (problem : Parts) (stands : IsProblem problem) (sorted : IsSorted probl
       → FoundStands problem (record { labels = p; order = order; load = load })
   complete_stands best p load order partial h =
       let legal : IsLegal problem.items p = full-legal problem.items p h.2 partial in
-      (
-        record { legal = legal; order = order; passes = order_passes problem stands sorted p legal order h.1 },
-        record { labels_are = refl; lowest_first = h.1; load_is = h.3 },
-      )
+      record {
+        legal = legal;
+        lowest_first = h.1;
+        passes = order_passes problem stands sorted p legal order h.1;
+        load_is = h.3;
+      }
 
   -- what was found last stands after each finding, and is the best
   found_along : (best : Option ℕ) (p : List ℕ) (finding : Finding) (found : Option Found)

@@ -2,9 +2,11 @@
 -- project's own.
 use Rattle.std.specs.Prelude.{ℕ, zero, suc, ◌≡◌, ◌+◌, ◌-◌, ◌*◌, ◌/◌, ◌<◌, ◌≤◌, ◌⊎◌, ⊤, Bool, true, false, ◌&&◌, List, [], ◌∷◌, ◌++◌, length, map, nat_eq, nat_le, nat_lt, Option, Some, None, cond}
 use Rattle.pack_model.specs.Problem.{Parts, sent_by}
+use Rattle.response_test.specs.Order.{OrderPasses}
 use Rattle.priority_assign.specs.Lowest.{IsLowestFirst}
 use Rattle.class_frame.specs.Classes.{load_of}
 use Rattle.class_frame.specs.Grouping.{classes_of}
+use Rattle.class_frame.specs.Legal.{IsLegal}
 use Rattle.cert_text.specs.Parts.{LemmaOf}
 use Rattle.cert_text.specs.Trees.{Plain}
 use Rattle.bandwidth_bound.specs.Solvable.{Solvable}
@@ -74,16 +76,21 @@ put_together classes [] = []
 put_together classes (labels ∷ groupings) =
     map (λ label. classes + label) labels ++ put_together (classes + classes_of labels) groupings
 
--- the senders' own best groupings put together, where each search ended
+-- the senders' own best groupings put together, where there is one for each of two or more senders
+abbrev pub grouping_of_all : Parts → List (List ℕ) → Option (List ℕ)
+grouping_of_all problem groupings =
+    cond (has_turns problem && nat_eq (length groupings) (length problem.senders))
+    (Some (put_together 0 groupings)) None
+
+-- the same of the groupings that turns leave
 abbrev pub grouping_by_sender : Parts → Turns → Option (List ℕ)
-grouping_by_sender problem turns =
-    cond (has_turns problem && nat_eq (length turns.groupings) (length problem.senders))
-    (Some (put_together 0 turns.groupings)) None
+grouping_by_sender problem turns = grouping_of_all problem turns.groupings
 
 -- a grouping with the order of lowest-priority-first assignment, in which each frame passes, and its load
 pub record IsFound (problem : Parts) (labels : List ℕ) (found : Found) : Type 0 where
   pub labels_are : found.labels ≡ labels
   pub lowest_first : IsLowestFirst (frames_at problem labels) problem.network.nominal_ticks 0 found.order
+  pub passes : OrderPasses (frames_at problem labels) problem.network.nominal_ticks found.order
   pub load_is : found.load ≡ load_of problem problem.items labels
 
 -- a grouping with its order, where some order of its frames passes
@@ -110,6 +117,14 @@ pub record IsFirst (problem : Parts) (turns : Turns) (first : Option Found) : Ty
   pub together_is : IsTimedIf problem (grouping_by_sender problem turns) together
   pub alone_is : IsTimed problem (labels_alone problem) alone
   pub first_is : first ≡ better_of together alone
+
+-- a legal grouping of all items with the order of lowest-priority-first assignment, in which each frame passes, and
+-- its load
+pub record FoundStands (problem : Parts) (found : Found) : Type 0 where
+  pub legal : IsLegal problem.items found.labels
+  pub lowest_first : IsLowestFirst (frames_at problem found.labels) problem.network.nominal_ticks 0 found.order
+  pub passes : OrderPasses (frames_at problem found.labels) problem.network.nominal_ticks found.order
+  pub load_is : found.load ≡ load_of problem problem.items found.labels
 
 -- how many senders have a turn
 abbrev pub turn_count : Parts → ℕ

@@ -14,10 +14,11 @@ use Rattle.tree_search.specs.declared.node.Node.{Node}
 use Rattle.tree_search.specs.declared.node.Node.TheVariants.{Inner, Bound, Left, Fail}
 use Rattle.tree_search.specs.Open.{has_open, nodes_of}
 use Rattle.tree_search.specs.Step.{Searched}
+use Rattle.plan_search.specs.Begin.{FoundStands}
 use Rattle.plan_search.specs.declared.planned.Planned.{Planned}
 use Rattle.plan_search.specs.declared.planned.Planned.TheVariants as planned
 use Rattle.plan_search.specs.declared.searching.Ended.{Ended}
-use Rattle.plan_search.specs.Plan.{FoundStands, last_found, load_found, none_cert, open_cert}
+use Rattle.plan_search.specs.Plan.{last_found, load_found, none_cert, open_cert}
 use Rattle.plan_search.specs.Searches.{IsSearch, trimmed}
 
 -- the tree that is written: trimmed, where no leaf is open and there is a best load

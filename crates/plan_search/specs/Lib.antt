@@ -5,3 +5,4 @@ pub mod Laws
 pub mod Lines
 pub mod Plan
 pub mod Searches
+pub mod Takes

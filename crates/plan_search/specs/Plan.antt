@@ -20,9 +20,9 @@ use Rattle.tree_search.specs.Open.{has_open}
 use Rattle.tree_search.specs.Step.{Searched}
 use Rattle.plan_search.specs.declared.planned.Planned.{Planned}
 use Rattle.plan_search.specs.declared.planned.Planned.TheVariants as planned
-use Rattle.plan_search.specs.Begin.{Begins, IsTimed}
+use Rattle.plan_search.specs.Begin.{Begins}
 use Rattle.plan_search.specs.Lines.{AreLeastLines}
-use Rattle.plan_search.specs.Searches.{IsSearch, IsTrimmedIn, branches_of, nodes_of_cert, trimmed}
+use Rattle.plan_search.specs.Searches.{IsSearch, IsTrimmedIn, LemmaIsTrimmed, branches_of, nodes_of_cert, trimmed}
 
 -- ---- the answer
 
@@ -67,11 +67,6 @@ Ends problem lemmas best tree (planned.Spent (Some rows) cert) =
     (has_open tree ≡ true) × ((found : Found) × (best ≡ Some found)
     × IsShownBy problem found rows cert.frames
     × (cert ≡ open_cert cert.frames lemmas tree))
-
--- what was found stands: a legal grouping that can meet all deadlines, with the order of lowest-priority-first
--- assignment and its load
-abbrev pub FoundStands : Parts → Found → Type 0
-FoundStands problem found = IsTimed problem found.labels (Some found)
 
 -- the load of a grouping that may not be there
 abbrev pub load_found : Option Found → Option ℕ
@@ -124,10 +119,6 @@ judged_plan problem plan =
     record { problem = problem; matrix = matrix_of_plan plan; cert = cert_of_plan plan }
 
 -- ---- what is promised of it
-
--- no inner node of the tree of a lemma has a bound that reaches its value
-abbrev pub LemmaIsTrimmed : Parts → LemmaOf Plain → Type 0
-LemmaIsTrimmed problem lemma = IsTrimmedIn problem (Some lemma.sender) [] lemma.value lemma.tree
 
 -- no inner node of the main tree has a bound that reaches 8 times a load
 abbrev pub MainIsTrimmed : Parts → List ℕ → ℕ → Option Plain → Type 0

@@ -50,9 +50,20 @@ nodes_of_main (Some tree) = nodes_of tree
 abbrev pub nodes_of_cert : CertParts → ℕ
 nodes_of_cert cert = nodes_of_main cert.main_tree + nodes_of_lemmas cert.lemmas
 
+-- how many partial groupings there are of a sender's items
+abbrev pub places_of : Parts → ℕ → ℕ
+places_of problem sender =
+    place_count (sent_by problem.items sender) (length (sent_by problem.items sender)) []
+
+-- and of the items of the first senders, of each one's alone
+abbrev pub places_of_first : Parts → ℕ → ℕ
+places_of_first problem senders = sum_by (places_of problem) (range_with_len 0 senders)
+
 -- the count of branches: how many partial groupings there are of all items, and of each sender's alone
 abbrev pub branches_of : Parts → ℕ
 branches_of problem =
-    place_count problem.items (length problem.items) []
-    + sum_by (λ sender. place_count (sent_by problem.items sender) (length (sent_by problem.items sender)) [])
-    (range_with_len 0 (length problem.senders))
+    place_count problem.items (length problem.items) [] + places_of_first problem (length problem.senders)
+
+-- no inner node of the tree of a lemma has a bound that reaches its value
+abbrev pub LemmaIsTrimmed : Parts → LemmaOf Plain → Type 0
+LemmaIsTrimmed problem lemma = IsTrimmedIn problem (Some lemma.sender) [] lemma.value lemma.tree

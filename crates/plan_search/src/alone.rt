@@ -39,7 +39,7 @@ pub enum Alone {
 }
 
 /// The numbers below a count, ascending.
-fn numbers_below(alloc: Global, count: u32) -> Result<Vec<u32>, AllocError>
+pub(crate) fn numbers_below(alloc: Global, count: u32) -> Result<Vec<u32>, AllocError>
     ensures { IfOk result (λ numbers. numbers.items ≡ range_with_len 0 count) }
 {
     (0..count).collect(alloc)
@@ -54,7 +54,7 @@ fn timed_cert(alloc: Global, lines: Vec<FrameLine>) -> Cert
 
 /// The order of lowest-priority-first assignment, none exactly where no order has each frame pass. `bit` is
 /// the time of a nominal bit in ticks. The only error is want of memory.
-fn passing_order(alloc: Global, frames: &[Timed], bit: u64) -> Result<Option<Vec<u32>>, Memory>
+pub(crate) fn passing_order(alloc: Global, frames: &[Timed], bit: u64) -> Result<Option<Vec<u32>>, Memory>
     requires few { length frames.now ≤ 128 }
     requires in_range { All IsInRange frames.now }
     requires bit { IsBit frames.now bit }

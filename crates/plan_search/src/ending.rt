@@ -4,8 +4,9 @@ ghost use Rattle.cert_text.specs.PlainTree.{plain_lemma, plain_of};
 ghost use Rattle.cert_text.specs.Trees.{Plain};
 ghost use Rattle.bandwidth_bound.specs.Lemmas.{values_of};
 ghost use Rattle.tree_search.specs.Open.{has_open};
+ghost use Rattle.plan_search.specs.Begin.{FoundStands};
 ghost use Rattle.plan_search.specs.Ending.{final_tree, plan_with, plan_without};
-ghost use Rattle.plan_search.specs.Plan.{Ends, FoundStands, load_found};
+ghost use Rattle.plan_search.specs.Plan.{Ends, load_found};
 
 use crate::planned::Planned;
 use crate::shown::shown_by;

@@ -10,9 +10,10 @@ ghost use Rattle.bandwidth_bound.specs.Rule.{Accepts};
 ghost use Rattle.bandwidth_bound.specs.Trees.{TreeStands};
 ghost use Rattle.tree_search.specs.Flat.{flat};
 ghost use Rattle.tree_search.specs.Open.{HasOptions};
+ghost use Rattle.plan_search.specs.Begin.{FoundStands};
 ghost use Rattle.plan_search.specs.Ending.{final_tree, is_left};
-ghost use Rattle.plan_search.specs.Plan.{Ends, FoundStands, IsTrimmedPlan, LemmaIsTrimmed, cert_of_plan, judged_plan, load_found, verdict_of_plan};
-ghost use Rattle.plan_search.specs.Searches.{trimmed};
+ghost use Rattle.plan_search.specs.Plan.{Ends, IsTrimmedPlan, cert_of_plan, judged_plan, load_found, verdict_of_plan};
+ghost use Rattle.plan_search.specs.Searches.{trimmed, LemmaIsTrimmed};
 
 use crate::ending::end;
 use crate::planned::Planned;

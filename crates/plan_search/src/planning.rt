@@ -4,7 +4,7 @@ ghost use Rattle.cert_text.specs.Written.{CertFits};
 ghost use Rattle.bandwidth_bound.specs.Rule.{Accepts};
 ghost use Rattle.plan_search.specs.Plan.{IsPlanOf, IsTrimmedPlan, IsWithin, cert_of_plan, judged_plan, verdict_of_plan};
 
-use crate::begin::{Begun, begin};
+use crate::beginning::{Begun, begin};
 use crate::ending::end;
 use crate::planned::Planned;
 use crate::searching::{Ended, problem_stands, search_all};

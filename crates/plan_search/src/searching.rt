@@ -5,8 +5,9 @@ ghost use Rattle.cert_text.specs.PlainTree.{plain_of};
 ghost use Rattle.tree_search.specs.Shown.{IsAt, IsOf, items_of, start_of};
 ghost use Rattle.tree_search.specs.Step.{Searched};
 ghost use Rattle.search_judge.specs.Judges.{JudgesOver};
+ghost use Rattle.plan_search.specs.Begin.{FoundStands};
 ghost use Rattle.plan_search.specs.Ending.{IsEnded, final_tree};
-ghost use Rattle.plan_search.specs.Plan.{FoundStands, last_found, load_found};
+ghost use Rattle.plan_search.specs.Plan.{last_found, load_found};
 
 use cert_text::Tree;
 use grouping_tree::Partial;

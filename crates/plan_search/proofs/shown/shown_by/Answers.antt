@@ -11,13 +11,13 @@ use Rattle.plan_search.proofs.shown.shown_by.Goals as goal
 pub overflow_cast-order : goal.overflow_cast-order
 overflow_cast-order c =
     let few = order_few c.args.problem.now c.args.found.now.labels c.args.found.now.order
-        c.requires.1.lowest_first c.network.ensures.problem c.requires.0.legal in
+        c.requires.lowest_first c.network.ensures.problem c.requires.legal in
     omega (arith, few, ap length c.as_slice-order.ensures)
 
 pub class_frames-requires-clause-classes : goal.class_frames-requires-clause-classes
 class_frames-requires-clause-classes c =
     ap length c.as_slice-order.ensures
-    ∙ order_count c.args.problem.now c.args.found.now.labels c.args.found.now.order c.requires.1.lowest_first
+    ∙ order_count c.args.problem.now c.args.found.now.labels c.args.found.now.order c.requires.lowest_first
     ∙ ap classes_of (sym c.as_slice-labels.ensures)
 
 pub least_lines-requires-clause-passes : goal.least_lines-requires-clause-passes
@@ -30,7 +30,7 @@ least_lines-requires-clause-passes c =
     ∙ ap (frames_at c.args.problem.now) c.as_slice-labels.ensures) c.in_ok-frames.ensures.in_range in
     let passes : OrderPasses (frames_at c.args.problem.now c.args.found.now.labels)
     c.args.problem.now.network.nominal_ticks c.args.found.now.order =
-    passes_in_range c.args.problem.now c.args.found.now.labels c.args.found.now.order c.requires.1.lowest_first
+    passes_in_range c.args.problem.now c.args.found.now.labels c.args.found.now.order c.requires.lowest_first
     c.network.ensures.problem in_range in
     let bit : c.from-bit.result ≡ c.args.problem.now.network.nominal_ticks =
     c.from-bit.ensures ∙ ap (λ (n : Network). n.nominal_ticks) c.network.ensures.network in
@@ -46,4 +46,4 @@ pub matrix_of-requires-clause-order : goal.matrix_of-requires-clause-order
 matrix_of-requires-clause-order c =
     subst (IsOrder c.as_slice-labels.result.now) (sym c.as_slice-order.ensures)
     (subst (λ ls. IsOrder ls c.args.found.now.order) (sym c.as_slice-labels.ensures)
-    (is_order c.args.problem.now c.args.found.now.labels c.args.found.now.order c.requires.1.lowest_first))
+    (is_order c.args.problem.now c.args.found.now.labels c.args.found.now.order c.requires.lowest_first))
