@@ -1,5 +1,6 @@
 pub mod Alone
 pub mod Begin
+pub mod Ending
 pub mod Laws
 pub mod Lines
 pub mod Plan

@@ -8,16 +8,21 @@
 mod alone;
 mod beginning;
 mod count;
+mod ending;
+mod finishing;
 mod first;
 mod laws;
 mod lines;
-mod plan;
 mod planned;
+mod planning;
+mod searching;
+mod shown;
 mod together;
 mod turns;
 
 pub use alone::{Alone, load_alone, plan_alone};
 pub use beginning::{Begun, begin};
+pub use finishing::finish;
 pub use laws::{plan_alone_is_one, plan_is_one};
-pub use plan::plan;
 pub use planned::Planned;
+pub use planning::plan;

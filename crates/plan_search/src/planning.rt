@@ -4,7 +4,10 @@ ghost use Rattle.cert_text.specs.Written.{CertFits};
 ghost use Rattle.bandwidth_bound.specs.Rule.{Accepts};
 ghost use Rattle.plan_search.specs.Plan.{IsPlanOf, IsTrimmedPlan, IsWithin, cert_of_plan, judged_plan, verdict_of_plan};
 
+use crate::beginning::{Begun, begin};
+use crate::ending::end;
 use crate::planned::Planned;
+use crate::searching::{Ended, problem_stands, search_all};
 use pack_model::{Memory, Problem};
 use std::alloc::Global;
 
@@ -21,5 +24,18 @@ pub fn plan(alloc: Global, problem: &Problem, branches: u64) -> Result<Planned, 
     ensures within { IfOk result (IsWithin problem.now branches) }
     ensures fits { IfOk result (λ planned. CertFits (cert_of_plan planned)) }
 {
-    Err(Memory)
+    problem_stands(problem);
+    let Begun {
+        lemmas,
+        values,
+        first,
+        left,
+    } = begin(alloc, problem, branches)?;
+    let Ended {
+        best,
+        is_open,
+        tree,
+    } = search_all(alloc, problem, values.as_slice(), first, left)?;
+    let planned = end(alloc, problem, lemmas, best, tree, is_open)?;
+    Ok(planned)
 }
