@@ -12,8 +12,9 @@ const FIRST_LINES: &[u8] =
     b"signal,sender,pdu,bits,period_us,deadline_us,jitter_us\nS1,ECU1,,2,100000,100000,0\nS2,ECU1,,12,100000,100000,0\nS3,ECU1,,3,100000,100000,0\nS4,ECU1,,5,50000,50000,0\n";
 
 /// Words that are no line of `make`.
-const WRONG: [&[&str]; 8] = [
-    &["make", "1"],
+const WRONG: [&[&str]; 9] = [
+    &["make"],
+    &["make", "1000001"],
     &["make", "1", "n.json"],
     &["make", "1000001", "n.json", "s.csv"],
     &["make", "01", "n.json", "s.csv"],
@@ -80,5 +81,18 @@ fn files_after_a_case(rt: HostRuntime) -> Result<(), Fail> {
         );
         assert_eq!(rt; out.said(), *said, "run {number}");
     }
+    Ok(())
+}
+
+/// A generated case planned in memory: no file is touched.
+#[test]
+fn a_case_is_planned(rt: HostRuntime) -> Result<(), Fail> {
+    let mut folder = MemFolder::new(rt.alloc());
+    let mut out = MemSink::new(rt.alloc());
+    assert_eq!(rt; status_of(&rt, &["make", "1"], &mut folder, &mut out)?, 0);
+    assert_eq!(rt;
+        out.said(),
+        b"case 1 signals 25 senders 4 best 354200/8000000\n".as_slice()
+    );
     Ok(())
 }

@@ -1,5 +1,5 @@
 // What `plan` writes, and what is left where a call fails.
-use crate::runs::{CERT, CHECK, NAMES, NETWORK, SIGNALS, status_of};
+use crate::runs::{CHECK, MATRIX, NAMES, NETWORK, NO_ROWS, SIGNALS, status_of};
 use pack_base::{MemFolder, MemSink};
 use std::test::Fail;
 
@@ -13,22 +13,20 @@ const PLAN: [&str; 7] = [
     "1",
 ];
 
-/// Two frames of 7000 ticks every 800000: the higher one waits for a frame that is lower or on the bus, the lower one for
-/// the higher.
-const TIMED_CERT: &[u8] =
-    b"canpack certificate 1\nkind timed\nframe 14000 7000\nframe 14000 7000\nend\n";
-
-/// Two signals of 8 bits, each in a frame of its own.
-const PLANNED: &[u8] =
-    b"id,sender,size,ticks,header,pdu,at,signal,start,bits\n256,ECU1,1,7000,none,,0,S1,0,8\n257,ECU1,1,7000,none,,0,S2,0,8\n";
+/// The two signals in one frame of 2 bytes, the best: with one of them placed, 56000 eighths and 3200 for the other are
+/// what the frame costs.
+const BEST_CERT: &[u8] = b"canpack certificate 1\nkind best\nframe 7400 0\nmain\ni 1\nb\nend\n";
 
 /// Two I-PDUs of 8 bits.
 const TWO_PDUS: &[u8] =
     b"signal,sender,pdu,bits,period_us,deadline_us,jitter_us\nS1,ECU1,1,8,10000,10000,0\nS2,ECU1,2,8,10000,10000,0\n";
 
-/// The two I-PDUs, each alone in a frame of its own.
+/// The two I-PDUs in a container with short headers.
 const PLANNED_PDUS: &[u8] =
-    b"id,sender,size,ticks,header,pdu,at,signal,start,bits\n256,ECU1,1,7000,none,1,0,S1,0,8\n257,ECU1,1,7000,none,2,0,S2,0,8\n";
+    b"id,sender,size,ticks,header,pdu,at,signal,start,bits\n256,ECU1,12,11400,short,1,4,S1,32,8\n256,ECU1,12,11400,short,2,9,S2,72,8\n";
+
+const PDUS_CERT: &[u8] =
+    b"canpack certificate 1\nkind best\nframe 11400 0\nmain\ni 1\ni 2\nb\nb\nend\n";
 
 /// A signal of 8 bits, with 10 ms and with 87 us to be sent in; its frame takes 87.5 us.
 const ONE: &[u8] =
@@ -41,15 +39,19 @@ const LATE: &[u8] =
 const PLANNED_ONE: &[u8] =
     b"id,sender,size,ticks,header,pdu,at,signal,start,bits\n256,ECU1,1,7000,none,,0,S1,0,8\n";
 
-const ONE_CERT: &[u8] = b"canpack certificate 1\nkind timed\nframe 7000 0\nend\n";
+const ONE_CERT: &[u8] = b"canpack certificate 1\nkind best\nframe 7000 0\nmain\ni 1\nb\nend\n";
+
+/// It can't be in time.
+const LATE_CERT: &[u8] =
+    b"canpack certificate 1\nkind none\nmain\ni 1\nf 1\nlate 0 0 1 / 0\nend\n";
 
 /// Three signals of 64 bytes every ms: 97200 ticks of 80000.
 const THREE: &[u8] =
     b"signal,sender,pdu,bits,period_us,deadline_us,jitter_us\nA,E1,,512,1000,1000,0\nB,E2,,512,1000,1000,0\nC,E3,,512,1000,1000,0\n";
 
-/// They in frames of their own, by item.
-const PLANNED_THREE: &[u8] =
-    b"id,sender,size,ticks,header,pdu,at,signal,start,bits\n256,E1,64,32400,none,,0,A,0,512\n257,E2,64,32400,none,,0,B,0,512\n258,E3,64,32400,none,,0,C,0,512\n";
+/// Whatever is packed with what, they fill the bus.
+const THREE_CERT: &[u8] =
+    b"canpack certificate 1\nkind none\nmain\ni 1\ni 1\ni 1\nf 3\nover 0\nover 1\nover 2\nend\n";
 
 /// A signal of more bits than a frame has.
 const TOO_WIDE: &[u8] =
@@ -142,18 +144,18 @@ const WRITTEN: [(&[u8], u8, Option<&[u8]>, Option<&[u8]>, &[u8]); 5] = [
         TWO_PDUS,
         0,
         Some(PLANNED_PDUS),
-        Some(TIMED_CERT),
-        b"timed 14000/800000\n",
+        Some(PDUS_CERT),
+        b"best 11400/800000\n",
     ),
     (
         ONE,
         0,
         Some(PLANNED_ONE),
         Some(ONE_CERT),
-        b"timed 7000/800000\n",
+        b"best 7000/800000\n",
     ),
-    (LATE, 0, Some(PLANNED_ONE), Some(CERT), b"placed\n"),
-    (THREE, 0, Some(PLANNED_THREE), Some(CERT), b"placed\n"),
+    (LATE, 10, Some(NO_ROWS), Some(LATE_CERT), b"none\n"),
+    (THREE, 10, Some(NO_ROWS), Some(THREE_CERT), b"none\n"),
     (
         TOO_WIDE,
         4,
@@ -189,23 +191,23 @@ const RUNS: [(u64, bool, u8, Option<&[u8]>, Option<&[u8]>, &[u8]); 8] = [
         0,
         false,
         0,
-        Some(PLANNED),
-        Some(TIMED_CERT),
-        b"timed 14000/800000\n",
+        Some(MATRIX),
+        Some(BEST_CERT),
+        b"best 7400/800000\n",
     ),
-    (0, true, 7, Some(PLANNED), Some(TIMED_CERT), b""),
+    (0, true, 7, Some(MATRIX), Some(BEST_CERT), b""),
     (3, false, 2, None, None, b""),
     (5, false, 3, None, None, b""),
     (6, false, 3, Some(b""), None, b""),
-    (7, false, 3, Some(PLANNED), None, b""),
-    (8, false, 3, Some(PLANNED), Some(b""), b""),
+    (7, false, 3, Some(MATRIX), None, b""),
+    (8, false, 3, Some(MATRIX), Some(b""), b""),
     (
         9,
         false,
         0,
-        Some(PLANNED),
-        Some(TIMED_CERT),
-        b"timed 14000/800000\n",
+        Some(MATRIX),
+        Some(BEST_CERT),
+        b"best 7400/800000\n",
     ),
 ];
 
@@ -233,20 +235,43 @@ fn files_after_a_plan(rt: HostRuntime) -> Result<(), Fail> {
     Ok(())
 }
 
-/// Signals that are planned, and then checked.
-const PLANS: [(&[u8], u8, u8, &[u8]); 5] = [
-    (SIGNALS, 0, 0, b"timed 14000/800000\ntimed 14000/800000\n"),
-    (THREE, 0, 0, b"placed\nplaced\n"),
-    // Two senders, and signals of 9, 33 and 49 bits every 10 ms and of 512 bits every second: frames of 7400, 8600 and 9400
-    // ticks a hundred times, and one of 32400.
+/// Signals that are planned within so many branches, the status, and what `plan` and then `check` say.
+const PLANS: [(&[u8], &str, u8, u8, &[u8]); 14] = [
+    // Two signals: one step leaves the second open, the third one finds both in one frame, and the fourth is the last.
+    (
+        SIGNALS,
+        "1",
+        11,
+        0,
+        b"open 14000/800000 59200/6400000\nopen 14000/800000 59200/6400000\n",
+    ),
+    (
+        SIGNALS,
+        "3",
+        11,
+        0,
+        b"open 7400/800000 59200/6400000\nopen 7400/800000 59200/6400000\n",
+    ),
+    (
+        SIGNALS,
+        "4",
+        0,
+        0,
+        b"best 7400/800000\nbest 7400/800000\n",
+    ),
+    (THREE, "1000", 10, 0, b"none\nnone\n"),
+    // Two senders, and signals of 9, 33 and 49 bits every 10 ms and of 512 bits every second: 9 and 49 bits together are a
+    // frame of 9800 ticks; the others have 8600 and 32400.
     (
         b"signal,sender,pdu,bits,period_us,deadline_us,jitter_us\nA,E2,,9,10000,,\nB,E1,,33,10000,,\nC,E2,,49,10000,,\nD,E1,,512,1000000,,\n",
+        "1000",
         0,
         0,
-        b"timed 2572400/80000000\ntimed 2572400/80000000\n",
+        b"best 1872400/80000000\nbest 1872400/80000000\n",
     ),
     (
         b"signal,sender,pdu,bits,period_us,deadline_us,jitter_us\n",
+        "1000",
         4,
         4,
         b"refused SIGNALS no signals\nrefused SIGNALS no signals\n",
@@ -254,21 +279,79 @@ const PLANS: [(&[u8], u8, u8, &[u8]); 5] = [
     // An I-PDU of two signals, one of 512 bits, and a free signal: frames of 7400, 32400 and 7000 ticks.
     (
         b"signal,sender,pdu,bits,period_us,deadline_us,jitter_us\nA,E2,7,9,10000,,\nB,E1,4294967295,512,10000,,\nC,E2,7,3,10000,,\nD,E1,,1,10000,,\n",
+        "1000",
         0,
         0,
-        b"timed 46800/800000\ntimed 46800/800000\n",
+        b"best 46800/800000\nbest 46800/800000\n",
+    ),
+    // Together a signal every 10 ms and a long one every second would be sent every 10 ms.
+    (
+        b"signal,sender,pdu,bits,period_us,deadline_us,jitter_us\nS1,ECU1,,8,10000,,\nS2,ECU1,,504,1000000,,\n",
+        "1000",
+        0,
+        0,
+        b"best 732400/80000000\nbest 732400/80000000\n",
+    ),
+    // Two senders share no frame.
+    (
+        b"signal,sender,pdu,bits,period_us,deadline_us,jitter_us\nS1,ECU1,,8,10000,,\nS2,ECU2,,8,10000,,\n",
+        "1000",
+        0,
+        0,
+        b"best 14000/800000\nbest 14000/800000\n",
+    ),
+    // With long headers a container would have 18 bytes.
+    (
+        b"signal,sender,pdu,bits,period_us,deadline_us,jitter_us\nS1,ECU1,1,8,10000,,\nS2,ECU1,16777216,8,10000,,\n",
+        "1000",
+        0,
+        0,
+        b"best 14000/800000\nbest 14000/800000\n",
+    ),
+    // A byte order mark, and lines that end with CR LF.
+    (
+        b"\xef\xbb\xbfsignal,sender,pdu,bits,period_us,deadline_us,jitter_us\r\nS1,ECU1,,8,10000,10000,0\r\nS2,ECU1,,8,10000,10000,0\r\n",
+        "1000",
+        0,
+        0,
+        b"best 7400/800000\nbest 7400/800000\n",
+    ),
+    // 88 us are enough for a frame of 87.5.
+    (
+        b"signal,sender,pdu,bits,period_us,deadline_us,jitter_us\nS1,ECU1,,8,10000,88,0\n",
+        "1000",
+        0,
+        0,
+        b"best 7000/800000\nbest 7000/800000\n",
+    ),
+    // Twelve frames of 7000 ticks every 80000.
+    (
+        b"signal,sender,pdu,bits,period_us,deadline_us,jitter_us\nA,E1,,8,1000,,\nB,E2,,8,1000,,\nC,E3,,8,1000,,\nD,E4,,8,1000,,\nE,E5,,8,1000,,\nF,E6,,8,1000,,\nG,E7,,8,1000,,\nH,E8,,8,1000,,\nI,E9,,8,1000,,\nJ,E10,,8,1000,,\nK,E11,,8,1000,,\nL,E12,,8,1000,,\n",
+        "1000",
+        10,
+        0,
+        b"none\nnone\n",
+    ),
+    // Four senders: each has its first five signals in a frame of 9400 ticks ten times, and the last in one of 7400.
+    (
+        b"signal,sender,pdu,bits,period_us,deadline_us,jitter_us\nA1,ECU1,,8,10000,,\nA2,ECU1,,16,10000,,\nA3,ECU1,,12,20000,,\nA4,ECU1,,10,20000,,\nA5,ECU1,,8,50000,,\nA6,ECU1,,16,100000,,\nB1,ECU2,,8,10000,,\nB2,ECU2,,16,10000,,\nB3,ECU2,,12,20000,,\nB4,ECU2,,10,20000,,\nB5,ECU2,,8,50000,,\nB6,ECU2,,16,100000,,\nC1,ECU3,,8,10000,,\nC2,ECU3,,16,10000,,\nC3,ECU3,,12,20000,,\nC4,ECU3,,10,20000,,\nC5,ECU3,,8,50000,,\nC6,ECU3,,16,100000,,\nD1,ECU4,,8,10000,,\nD2,ECU4,,16,10000,,\nD3,ECU4,,12,20000,,\nD4,ECU4,,10,20000,,\nD5,ECU4,,8,50000,,\nD6,ECU4,,16,100000,,\n",
+        "100000",
+        0,
+        0,
+        b"best 405600/8000000\nbest 405600/8000000\n",
     ),
 ];
 
 #[test]
 fn planned_then_checked(rt: HostRuntime) -> Result<(), Fail> {
-    for (number, (signals, planned, checked, said)) in PLANS.iter().enumerate() {
+    for (number, (signals, branches, planned, checked, said)) in PLANS.iter().enumerate() {
         let mut folder = MemFolder::new(rt.alloc());
         folder.put(NAMES[0], NETWORK)?;
         folder.put(NAMES[1], signals)?;
         let mut out = MemSink::new(rt.alloc());
+        let words = ["plan", NAMES[0], NAMES[1], NAMES[2], NAMES[3], *branches, "1"];
         assert_eq!(rt;
-            status_of(&rt, &PLAN, &mut folder, &mut out)?,
+            status_of(&rt, &words, &mut folder, &mut out)?,
             *planned,
             "plan {number}"
         );

@@ -1,5 +1,5 @@
 -- What the answer of a command says where the command is known.
-use Rattle.std.proofs.Common.{◌≡◌, ◌≢◌, ◌∙◌, ◌⊎◌, ℕ, List, Option, None, Some, Result, Ok, Err, IsNone, IsOk, IsOkAnd, IsSome, IsSomeAnd, String, ap, arith, inl, inr, option_map, refl, subst, sym, is_some, true≢false, []}
+use Rattle.std.proofs.Common.{◌≡◌, ◌≢◌, ◌≤◌, ◌∙◌, ◌⊎◌, ℕ, List, Option, None, Some, Result, Ok, Err, IsNone, IsOk, IsOkAnd, IsSome, IsSomeAnd, String, ap, arith, inl, inr, option_map, refl, subst, sym, is_some, true≢false, []}
 use Rattle.std.specs.Result.{result_err}
 use Rattle.std.specs.declared.alloc.Global.{Global}
 use Rattle.pack_base.specs.Outside.{Files, and_said}
@@ -13,19 +13,27 @@ use Rattle.bandwidth_bound.specs.declared.verdict.Part.{Part}
 use Rattle.bandwidth_bound.specs.declared.verdict.Part.TheVariants as part
 use Rattle.canpack_top.specs.declared.verdict.Found.{Found}
 use Rattle.canpack_top.specs.declared.verdict.Found.TheVariants as found
-use Rattle.canpack_top.specs.Answer.{Answered, IsAnswer, IsAnswered, IsExcused, IsRefused, SaysLine}
-use Rattle.canpack_top.specs.Check.{Accepts, AcceptsWith, HasAll, HasNoneLate, HasOnePlace, HasPassing, IsAnswerOf, Rejects, check_answer, check_meaning, texts_at}
+use Rattle.canpack_top.specs.Answer.{Answered, IsAnswer, IsAnswered, IsEnded, IsExcused, IsRefused, SaysAnswer}
+use Rattle.canpack_top.specs.Check.{Accepts, HasAll, HasNoneLate, HasOnePlace, HasPassing, IsAnswerOf, Rejects, check_answer, check_meaning, texts_at}
 use Rattle.canpack_top.specs.Command.{command_of, names_in}
 use Rattle.canpack_top.specs.Commands.{IsCheck, IsPlan, OfCommand, meaning_of}
 use Rattle.canpack_top.specs.Ending.{number_of}
 use Rattle.canpack_top.specs.Files.{problem_at}
 use Rattle.canpack_top.specs.Line.{refused_line}
 use Rattle.canpack_top.specs.Meaning.{Answer, Ends, Finishes, Meaning}
-use Rattle.canpack_top.specs.Plan.{IsPlanned, plan_meaning}
-use Rattle.canpack_top.specs.Headline.{Headline, Promises}
+use Rattle.canpack_top.specs.Plan.{IsPlanned, plan_meaning, plan_status}
+use Rattle.canpack_top.specs.Headline.{HasBest, HasNone, Headline, IsEnough, IsInTime, Promises}
 use Rattle.canpack_top.specs.Verdict.{Finds, IsAccepted, IsRejected, verdict_line}
 use Rattle.bandwidth_bound.specs.Rule.{Judged}
-use Rattle.bandwidth_bound.specs.Follows.{Holds}
+use Rattle.bandwidth_bound.specs.Follows.{Holds, NoneIsBetter, NoneIsSolvable}
+use Rattle.bandwidth_bound.specs.Rule as rule
+use Rattle.pack_model.specs.Problem.{Parts}
+use Rattle.plan_search.specs.declared.planned.Planned.{Planned}
+use Rattle.plan_search.specs.declared.planned.Planned.TheVariants as planned
+use Rattle.plan_search.specs.Plan.{IsWithin, verdict_of_plan}
+use Rattle.plan_search.specs.Searches.{branches_of}
+use Rattle.canpack_top.proofs.OneVerdict.{exclusive}
+use Rattle.canpack_top.proofs.Planned.{not_rejected}
 use Rattle.canpack_top.proofs.Promised.{promised}
 use Rattle.canpack_top.proofs.Runs.{ok_and}
 
@@ -39,18 +47,50 @@ done_number : (given : Status) → 0 ≡ number_of given → given ≡ status.Do
 done_number status.Done is = refl
 done_number status.Refused is = absurd (omega arith)
 done_number status.Rejected is = absurd (omega arith)
+done_number status.NoSolution is = absurd (omega arith)
+done_number status.Spent is = absurd (omega arith)
 
 -- status 5 is that of a rejection
 rejected_number : (given : Status) → 5 ≡ number_of given → given ≡ status.Rejected
 rejected_number status.Done is = absurd (omega arith)
 rejected_number status.Refused is = absurd (omega arith)
 rejected_number status.Rejected is = refl
+rejected_number status.NoSolution is = absurd (omega arith)
+rejected_number status.Spent is = absurd (omega arith)
 
 -- status 4 is that of a refusal
 refused_number : (given : Status) → 4 ≡ number_of given → given ≡ status.Refused
 refused_number status.Done is = absurd (omega arith)
 refused_number status.Refused is = refl
 refused_number status.Rejected is = absurd (omega arith)
+refused_number status.NoSolution is = absurd (omega arith)
+refused_number status.Spent is = absurd (omega arith)
+
+-- status 10 is that of a plan without a solution
+none_number : (given : Status) → 10 ≡ number_of given → given ≡ status.NoSolution
+none_number status.Done is = absurd (omega arith)
+none_number status.Refused is = absurd (omega arith)
+none_number status.Rejected is = absurd (omega arith)
+none_number status.NoSolution is = refl
+none_number status.Spent is = absurd (omega arith)
+
+-- status 11 is that of spent branches
+spent_number : (given : Status) → 11 ≡ number_of given → given ≡ status.Spent
+spent_number status.Done is = absurd (omega arith)
+spent_number status.Refused is = absurd (omega arith)
+spent_number status.Rejected is = absurd (omega arith)
+spent_number status.NoSolution is = absurd (omega arith)
+spent_number status.Spent is = refl
+
+-- a status with which a plan ends is not that of a refusal
+not_refusal : (given : Status) (number : ℕ) → IsEnded number → number ≡ number_of given → given ≢ status.Refused
+not_refusal status.Done number ended is = λ h. cc
+not_refusal status.Refused number (inl zero) is = λ h. omega (arith, zero, is)
+not_refusal status.Refused number (inr (inl ten)) is = λ h. omega (arith, ten, is)
+not_refusal status.Refused number (inr (inr eleven)) is = λ h. omega (arith, eleven, is)
+not_refusal status.Rejected number ended is = λ h. cc
+not_refusal status.NoSolution number ended is = λ h. cc
+not_refusal status.Spent number ended is = λ h. cc
 
 -- an answer that refuses no text is the command's own
 own : (meaning : Meaning) (before now : Files) (answer : Answer) → answer.status ≢ status.Refused
@@ -63,12 +103,6 @@ refusing : (meaning : Meaning) (before now : Files) (answer : Answer) → answer
     → Ends meaning before now answer → IsRefused before meaning
 refusing meaning before now answer is told (inl finishes) = absurd (finishes.not_refused is)
 refusing meaning before now answer is told (inr refuses) = ap is_some (refuses.first told)
-
--- the acceptance rule doesn't both hold and fail
-exclusive : (judged : Judged) (shown : Verdict) (failed : Part) → Finds (found.Shown shown) judged → Finds (found.Rejected failed) judged → ⊥
-exclusive judged shown part.Matrix holds fails = fails holds.rule.matrix
-exclusive judged shown part.Timing holds fails = fails.1 holds.rule.timing
-exclusive judged shown part.Tree holds fails = fails.2 holds.rule.tree
 
 -- where the answer says that `check` is done, the acceptance rule holds
 accepted_of : (answer : Answer) (judged : Judged) (what : Found) → answer.status ≡ status.Done → Finds what judged
@@ -135,6 +169,37 @@ some_not_none (Some x) P is none = true≢false none
 is_there : {X : Type 0} (o : Option X) (x : X) → o ≡ Some x → IsNone o → ⊥
 is_there o x is none = true≢false (sym (ap is_some is) ∙ none)
 
+-- the status of `check` is 0 or 5, where it is its own
+check_number : (hyper : ℕ) (what : Found) {number : ℕ} → number ≡ number_of (check_answer hyper what).status
+    → (number ≡ 0 → ⊥) → (number ≡ 5 → ⊥) → ⊥
+check_number hyper (found.Shown shown) is zero five = zero is
+check_number hyper (found.Rejected failed) is zero five = five is
+
+-- a plan that is done shows the best
+best_of_plan : (judged : Judged) (plan : Planned) → plan_status plan ≡ status.Done
+    → rule.Accepts judged (verdict_of_plan judged.problem plan) → Holds judged
+    → (load : ℕ) × IsInTime judged load × NoneIsBetter judged.problem load
+best_of_plan judged (planned.Best rows cert) is accepts holds =
+    let shown = promised judged (verdict_of_plan judged.problem (planned.Best rows cert)) accepts holds in
+    (_, shown.0, shown.1)
+best_of_plan judged (planned.NoSolution cert) is accepts holds = cc
+best_of_plan judged (planned.Spent rows cert) is accepts holds = cc
+
+-- a plan that ends without a solution shows that there is none
+none_of_plan : (judged : Judged) (plan : Planned) → plan_status plan ≡ status.NoSolution
+    → rule.Accepts judged (verdict_of_plan judged.problem plan) → Holds judged → NoneIsSolvable judged.problem
+none_of_plan judged (planned.Best rows cert) is accepts holds = cc
+none_of_plan judged (planned.NoSolution cert) is accepts holds =
+    promised judged (verdict_of_plan judged.problem (planned.NoSolution cert)) accepts holds
+none_of_plan judged (planned.Spent rows cert) is accepts holds = cc
+
+-- with enough branches none is spent
+not_spent : (problem : Parts) (branches : ℕ) (plan : Planned) → plan_status plan ≡ status.Spent
+    → branches_of problem ≤ branches → IsWithin problem branches plan → ⊥
+not_spent problem branches (planned.Best rows cert) is enough within = cc
+not_spent problem branches (planned.NoSolution cert) is enough within = cc
+not_spent problem branches (planned.Spent rows cert) is enough within = omega (arith, enough, within.1)
+
 -- What the status of a call says of the words and of its answer.
 pub record Called (words : List (String Global)) (before now : Files) (said_before said_now : Option (List ℕ)) (number : ℕ) : Type 0 where
   pub statuses : (number ≡ 1) ⊎ IsAnswered number ⊎ IsExcused number
@@ -161,7 +226,7 @@ module _ {words : List (String Global)} {before now : Files} {said_before said_n
   -- at status 0 a command is done
   done : (given : Command) → command_of words ≡ Some given → number ≡ 0 → Own (meaning_of given words) before now status.Done
   done given is zero =
-      let all : Answered number words before now said_before said_now = called.answered (inl zero) in
+      let all : Answered number words before now said_before said_now = called.answered (inl (inl zero)) in
       own_of words before now given status.Done all.0 is (done_number all.0.status (sym zero ∙ all.1)) (λ h. cc) all.2
 
   -- at status 5 a command rejects
@@ -169,6 +234,12 @@ module _ {words : List (String Global)} {before now : Files} {said_before said_n
   rejects given is five =
       let all : Answered number words before now said_before said_now = called.answered (inr (inr five)) in
       own_of words before now given status.Rejected all.0 is (rejected_number all.0.status (sym five ∙ all.1)) (λ h. cc) all.2
+
+  -- the answer of a command that rejects
+  pub rejected_status : (given : Command) → command_of words ≡ Some given → number ≡ 5
+      → (answer : Answer) × (meaning_of given words).Has answer × (answer.status ≡ status.Rejected)
+  rejected_status given is five =
+      let all = rejects given is five in (all.answer, all.finishes.has, all.has_status)
 
   -- at status 4 a text is refused
   pub refused_text : number ≡ 4 → IsSome before → OfCommand words (IsRefused before)
@@ -203,7 +274,7 @@ module _ {words : List (String Global)} {before now : Files} {said_before said_n
   pub check_headline : number ≡ 0 → IsSome before → IsCheck words → Headline (names_in words) before said_before said_now
   unfolding own_of
   check_headline zero told check =
-      let all : Answered number words before now said_before said_now = called.answered (inl zero) in
+      let all : Answered number words before now said_before said_now = called.answered (inl (inl zero)) in
       let has_status : all.0.status ≡ status.Done = done_number all.0.status (sym zero ∙ all.1) in
       let own : Finishes (check_meaning (names_in words)) before now all.0 =
       (own_of words before now (command.CheckFiles check.0) status.Done all.0 check.1 has_status (λ h. cc) all.2).finishes in
@@ -217,42 +288,88 @@ module _ {words : List (String Global)} {before now : Files} {said_before said_n
       let all : Own (check_meaning (names_in words)) before now status.Rejected = rejects _ check.1 five in
       ok_and (texts_at (names_in words) before) _ _ (λ judged h. rejected_of all.answer judged h.0 all.has_status h.1 h.2) (all.finishes.answers told)
 
-  -- the line of a command that is done was said
-  said_line : (given : Command) → command_of words ≡ Some given → (zero : number ≡ 0) → (P : List ℕ → Type 0)
-      → ((answer : Answer) → Finishes (meaning_of given words) before now answer → P answer.line) → SaysLine said_before said_now P
-  said_line given is zero P each =
-      let all : Answered number words before now said_before said_now = called.answered (inl zero) in
+
+  -- a command that ended as a plan does has an answer of its own
+  pub ended : (given : Command) → command_of words ≡ Some given → (ends : IsEnded number)
+      → Finishes (meaning_of given words) before now (called.answered (inl ends)).0
+  ended given is ends =
+      let all : Answered number words before now said_before said_now = called.answered (inl ends) in
+      own (meaning_of given words) before now all.0 (not_refusal all.0.status number ends all.1)
+      (of_words words given (λ m. Ends m before now all.0) is all.2)
+
+  -- and its line was said
+  pub said_answer : (given : Command) → command_of words ≡ Some given → (ends : IsEnded number) → (P : Answer → Type 0)
+      → ((answer : Answer) → Finishes (meaning_of given words) before now answer → P answer)
+      → SaysAnswer number said_before said_now P
+  said_answer given is ends P each =
+      let all : Answered number words before now said_before said_now = called.answered (inl ends) in
+      (all.0, all.1, all.3, each all.0 (ended given is ends))
+
+  -- `plan` has written where it ended
+  pub plan_done : IsEnded number → IsSome before → (branches : ℕ) → IsPlan branches words
+      → SaysAnswer number said_before said_now (IsPlanned (names_in words) branches before now)
+  plan_done ends told branches plan = said_answer _ plan.1 ends _ (λ answer finishes. finishes.leaves told)
+
+  -- `check` accepts what it wrote
+  pub plan_accepted : IsEnded number → IsSome before → (branches : ℕ) → IsPlan branches words
+      → Accepts (names_in words) now
+  plan_accepted ends told branches plan =
+      ok_and (texts_at (names_in words) now) _ IsAccepted
+      (λ judged shows. (verdict_of_plan judged.problem shows.plan, shows.accepted))
+      ((ended _ plan.1 ends).shows told)
+
+  -- the line of the verdict was said, and what it promises holds
+  pub plan_headline : IsEnded number → IsSome before → (branches : ℕ) → IsPlan branches words
+      → Headline (names_in words) now said_before said_now
+  plan_headline ends told branches plan =
+      let all : Answered number words before now said_before said_now = called.answered (inl ends) in
+      ok_and (texts_at (names_in words) now) _ _
+      (λ judged shows. (
+        verdict_of_plan judged.problem shows.plan,
+        all.3 ∙ ap (λ (a : Answer). and_said said_before a.line) shows.answers,
+        promised judged (verdict_of_plan judged.problem shows.plan) shows.accepted shows.holds,
+      ))
+      ((ended _ plan.1 ends).shows told)
+
+  -- at status 0 no grouping that can meet all deadlines has a smaller load
+  pub plan_best : number ≡ 0 → IsSome before → (branches : ℕ) → IsPlan branches words
+      → HasBest (names_in words) now
+  plan_best zero told branches plan =
+      let all : Answered number words before now said_before said_now = called.answered (inl (inl zero)) in
       let is_done : all.0.status ≡ status.Done = done_number all.0.status (sym zero ∙ all.1) in
-      let finishes : Finishes (meaning_of given words) before now all.0 =
-      own (meaning_of given words) before now all.0 (λ h. let e : status.Done ≡ status.Refused = sym is_done ∙ h in cc)
-      (of_words words given (λ m. Ends m before now all.0) is all.2) in
-      (all.0.line, all.3, each all.0 finishes)
+      ok_and (texts_at (names_in words) now) _ _
+      (λ judged shows. best_of_plan judged shows.plan (sym (ap (λ (a : Answer). a.status) shows.answers) ∙ is_done)
+      shows.accepted shows.holds)
+      ((ended _ plan.1 (inl zero)).shows told)
 
-  -- `plan` has written at status 0
-  pub plan_done : number ≡ 0 → IsSome before → IsPlan words → SaysLine said_before said_now (IsPlanned (names_in words) before now)
-  plan_done zero told plan = said_line _ plan.2 zero _ (λ answer finishes. finishes.leaves told)
-
-  -- `check` accepts what `plan` wrote at status 0, with the line that was said
-  pub plan_accepted_line : number ≡ 0 → IsSome before → IsPlan words → SaysLine said_before said_now (AcceptsWith (names_in words) now)
-  plan_accepted_line zero told plan = said_line _ plan.2 zero _ (λ answer finishes. finishes.shows told)
-
-  pub plan_accepted : number ≡ 0 → IsSome before → IsPlan words → Accepts (names_in words) now
-  plan_accepted zero told plan =
-      let all : Own (plan_meaning (names_in words)) before now status.Done = done _ plan.2 zero in
-      ok_and (texts_at (names_in words) now) _ IsAccepted (λ judged h. (h.0, h.1)) (all.finishes.shows told)
+  -- at status 10 none can meet all deadlines
+  pub plan_none : number ≡ 10 → IsSome before → (branches : ℕ) → IsPlan branches words
+      → HasNone (names_in words) now
+  plan_none ten told branches plan =
+      let all : Answered number words before now said_before said_now = called.answered (inl (inr (inl ten))) in
+      let is_none : all.0.status ≡ status.NoSolution = none_number all.0.status (sym ten ∙ all.1) in
+      ok_and (texts_at (names_in words) now) _ _
+      (λ judged shows. none_of_plan judged shows.plan (sym (ap (λ (a : Answer). a.status) shows.answers) ∙ is_none)
+      shows.accepted shows.holds)
+      ((ended _ plan.1 (inr (inl ten))).shows told)
 
   -- `plan` never rejects
-  plan_rejects : number ≡ 5 → IsPlan words → ⊥
-  plan_rejects five plan =
-      let all : Own (plan_meaning (names_in words)) before now status.Rejected = rejects _ plan.2 five in
-      let e : status.Done ≡ status.Rejected = sym (ap (λ a. a.status) all.finishes.has.2) ∙ all.has_status in cc
+  plan_rejects : number ≡ 5 → (branches : ℕ) → IsPlan branches words → ⊥
+  plan_rejects five branches plan =
+      let all : Own (plan_meaning branches (names_in words)) before now status.Rejected = rejects _ plan.1 five in
+      let has = all.finishes.has in
+      not_rejected has.1.0 (sym (ap (λ a. a.status) has.1.2) ∙ all.has_status)
 
   -- where the words are the line of a command, its status is that of an answer, or excused
-  by_status : {G : Type 0} → (IsNone (command_of words) → ⊥) → (number ≡ 0 → G) → (number ≡ 4 → G) → (number ≡ 5 → G) → (IsExcused number → G) → G
-  by_status {G = G} some at_done at_refused at_rejected excused = elim called.statuses [
+  pub by_status : {G : Type 0} → (IsNone (command_of words) → ⊥) → (IsEnded number → G) → (number ≡ 4 → G) → (number ≡ 5 → G)
+      → (IsExcused number → G) → G
+  by_status {G = G} some at_ended at_refused at_rejected excused = elim called.statuses [
     | inl one ↦ absurd (some (called.usage one))
     | inr rest ↦ elim rest [
-      | inl answered ↦ elim answered [ inl zero ↦ at_done zero | inr more ↦ elim more [ inl four ↦ at_refused four | inr five ↦ at_rejected five ] ]
+      | inl answered ↦ elim answered [
+        | inl ends ↦ at_ended ends
+        | inr more ↦ elim more [ inl four ↦ at_refused four | inr five ↦ at_rejected five ]
+      ]
       | inr is ↦ excused is
     ]
   ]
@@ -271,15 +388,30 @@ module _ {words : List (String Global)} {before now : Files} {said_before said_n
   -- a refused text has status 4, or is excused
   pub text_refused : IsSome before → OfCommand words (IsRefused before) → (number ≡ 4) ⊎ IsExcused number
   text_refused told refused = by_status (some_not_none (command_of words) _ refused)
-      (λ zero. absurd (not_own (inl zero) status.Done (done_number _ (sym zero ∙ (called.answered (inl zero)).1)) (λ h. cc) told refused))
+      (λ ends. absurd (not_own (inl ends) _ refl
+      (not_refusal (called.answered (inl ends)).0.status number ends (called.answered (inl ends)).1) told refused))
       inl
       (λ five. absurd (not_own (inr (inr five)) status.Rejected (rejected_number _ (sym five ∙ (called.answered (inr (inr five))).1)) (λ h. cc) told refused))
       inr
 
+  -- `check` ends with 0 alone
+  check_zero : IsCheck words → IsEnded number → number ≡ 0
+  check_zero check (inl zero) = zero
+  check_zero check (inr (inl ten)) =
+      let answered = called.answered (inl (inr (inl ten))) in
+      let has = (ended _ check.1 (inr (inl ten))).has in
+      absurd (check_number has.0 has.1 (answered.1 ∙ ap (λ a. number_of a.status) has.2) (λ zero. omega (arith, ten, zero))
+      (λ five. omega (arith, ten, five)))
+  check_zero check (inr (inr eleven)) =
+      let answered = called.answered (inl (inr (inr eleven))) in
+      let has = (ended _ check.1 (inr (inr eleven))).has in
+      absurd (check_number has.0 has.1 (answered.1 ∙ ap (λ a. number_of a.status) has.2) (λ zero. omega (arith, eleven, zero))
+      (λ five. omega (arith, eleven, five)))
+
   -- where the acceptance rule holds `check` has status 0, or is excused
   pub check_accepts : IsSome before → IsCheck words → Accepts (names_in words) before → (number ≡ 0) ⊎ IsExcused number
   check_accepts told check accepts = by_status (is_there (command_of words) _ check.1)
-      inl
+      (λ ends. inl (check_zero check ends))
       (λ four. absurd (ok_not_refused (texts_at (names_in words) before) (ok_of _ IsAccepted accepts) (refused_at _ check.1 told four)))
       (λ five. absurd (ok_not_both (texts_at (names_in words) before) IsAccepted IsRejected
       (λ judged holds fails. exclusive judged holds.0 fails.0 holds.1 fails.1) accepts (check_rejected five told check)))
@@ -289,18 +421,40 @@ module _ {words : List (String Global)} {before now : Files} {said_before said_n
   pub check_rejects : IsSome before → IsCheck words → IsOk (texts_at (names_in words) before) → (Accepts (names_in words) before → ⊥)
       → (number ≡ 5) ⊎ IsExcused number
   check_rejects told check stand refused = by_status (is_there (command_of words) _ check.1)
-      (λ zero. absurd (refused (check_accepted zero told check)))
+      (λ ends. absurd (refused (check_accepted (check_zero check ends) told check)))
       (λ four. absurd (ok_not_refused (texts_at (names_in words) before) stand (refused_at _ check.1 told four)))
       inl
       inr
 
-  -- where there is a problem `plan` has status 0, or is excused
-  pub plan_plans : IsSome before → IsPlan words → IsOk (problem_at (names_in words) before) → (number ≡ 0) ⊎ IsExcused number
-  plan_plans told plan stands = by_status (is_there (command_of words) _ plan.2)
+  -- where there is a problem `plan` ends, or is excused
+  pub plan_plans : IsSome before → (branches : ℕ) → IsPlan branches words → IsOk (problem_at (names_in words) before)
+      → IsEnded number ⊎ IsExcused number
+  plan_plans told branches plan stands = by_status (is_there (command_of words) _ plan.1)
       inl
-      (λ four. absurd (ok_not_refused (problem_at (names_in words) before) stands (refused_at _ plan.2 told four)))
-      (λ five. absurd (plan_rejects five plan))
+      (λ four. absurd (ok_not_refused (problem_at (names_in words) before) stands (refused_at _ plan.1 told four)))
+      (λ five. absurd (plan_rejects five branches plan))
       inr
+
+  -- with enough branches it doesn't end with branches spent
+  pub plan_solves : IsSome before → (branches : ℕ) → IsPlan branches words
+      → IsEnough branches (names_in words) before → (number ≡ 0) ⊎ (number ≡ 10) ⊎ IsExcused number
+  plan_solves told branches plan enough =
+      elim (plan_plans told branches plan (ok_of (problem_at (names_in words) before) _ enough)) [
+        | inl ends ↦ solved ends
+        | inr excused ↦ inr (inr excused)
+      ]
+    where
+      solved : IsEnded number → (number ≡ 0) ⊎ (number ≡ 10) ⊎ IsExcused number
+      solved (inl zero) = inl zero
+      solved (inr (inl ten)) = inr (inl ten)
+      solved (inr (inr eleven)) =
+          let all : Answered number words before now said_before said_now =
+          called.answered (inl (inr (inr eleven))) in
+          let is_spent : all.0.status ≡ status.Spent = spent_number all.0.status (sym eleven ∙ all.1) in
+          absurd (ok_not_both (problem_at (names_in words) before) _ _
+          (λ problem given few. not_spent problem branches given.0
+          (sym (ap (λ (a : Answer). a.status) given.2) ∙ is_spent) few given.1.within)
+          ((ended _ plan.1 (inr (inr eleven))).answers told) enough)
 
 -- `check` writes nothing
 pub check_idle : (words : List (String Global)) → IsCheck words → OfCommand words (λ meaning. meaning.writes ≡ [])

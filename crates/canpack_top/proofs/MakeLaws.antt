@@ -3,7 +3,7 @@ use Rattle.std.proofs.Common.{◌≡◌, ◌∙◌, ◌⊎◌, ℕ, List, Option
 use Rattle.std.specs.declared.alloc.Global.{Global}
 use Rattle.pack_base.specs.Outside.{Files, and_said}
 use Rattle.canpack_top.specs.declared.command.Command.TheVariants as command
-use Rattle.canpack_top.specs.Answer.{IsAnswered, IsRefused}
+use Rattle.canpack_top.specs.Answer.{IsAnswered, IsEnded, IsRefused}
 use Rattle.canpack_top.specs.Command.{case_names_in}
 use Rattle.canpack_top.specs.Commands.{IsMake, OfCommand}
 use Rattle.canpack_top.specs.Ending.{number_of}
@@ -29,17 +29,17 @@ module _ {words : List (String Global)} {before now : Files} {said_before said_n
 
   -- it has written the case at status 0
   pub make_written : number ≡ 0 → IsSome before → CaseWritten case (case_names_in words) before now
-  make_written zero told = (own_answer (inl zero) (λ four. omega (arith, zero, four))).leaves told
+  make_written zero told = (own_answer (inl (inl zero)) (λ four. omega (arith, zero, four))).leaves told
 
   -- its files are read as the case then
   pub make_reads : number ≡ 0 → IsSome before → HasCase case (case_names_in words) now
-  make_reads zero told = (own_answer (inl zero) (λ four. omega (arith, zero, four))).shows told
+  make_reads zero told = (own_answer (inl (inl zero)) (λ four. omega (arith, zero, four))).shows told
 
   -- and its line was said
   pub make_said : number ≡ 0 → said_now ≡ and_said said_before (case_line case)
   make_said zero =
-      (called.answered (inl zero)).3
-      ∙ ap (λ a. and_said said_before a.line) (own_answer (inl zero) (λ four. omega (arith, zero, four))).has
+      (called.answered (inl (inl zero))).3
+      ∙ ap (λ a. and_said said_before a.line) (own_answer (inl (inl zero)) (λ four. omega (arith, zero, four))).has
 
   -- it never rejects
   not_rejected : number ≡ 5 → ⊥
@@ -48,6 +48,17 @@ module _ {words : List (String Global)} {before now : Files} {said_before said_n
       let done : number_of (called.answered (inr (inr five))).0.status ≡ 0 =
       ap (λ a. number_of a.status) (own_answer (inr (inr five)) other).has in
       omega (arith, done, five, (called.answered (inr (inr five))).1)
+
+  -- it ends with 0 alone
+  zero_of : IsEnded number → number ≡ 0
+  zero_of ends =
+      let answer = called.answered (inl ends) in
+      answer.1 ∙ ap (λ a. number_of a.status) (own_answer (inl ends) (λ four. not_four ends four)).has
+    where
+      not_four : IsEnded number → number ≡ 4 → ⊥
+      not_four (inl zero) four = omega (arith, zero, four)
+      not_four (inr (inl ten)) four = omega (arith, ten, four)
+      not_four (inr (inr eleven)) four = omega (arith, eleven, four)
 
   -- it never refuses
   not_refused : IsSome before → number ≡ 4 → ⊥
@@ -65,7 +76,7 @@ module _ {words : List (String Global)} {before now : Files} {said_before said_n
     | inl one ↦ absurd (true≢false (sym (ap is_some make) ∙ called.usage one))
     | inr rest ↦ elim rest [
       | inl answered ↦ elim answered [
-        | inl zero ↦ inl zero
+        | inl ends ↦ inl (zero_of ends)
         | inr more ↦ elim more [
           | inl four ↦ absurd (not_refused told four)
           | inr five ↦ absurd

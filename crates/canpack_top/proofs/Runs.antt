@@ -17,18 +17,18 @@ use Rattle.canpack_top.specs.declared.ending.Stop.TheVariants as stop
 use Rattle.canpack_top.specs.declared.refusal.Refusal.{Refusal}
 use Rattle.canpack_top.specs.declared.verdict.Found.{Found}
 use Rattle.canpack_top.specs.declared.verdict.Found.TheVariants as found
-use Rattle.canpack_top.specs.Check.{AcceptsWith, HasAll, IsAnswerOf, check_answer, check_meaning, texts_at}
+use Rattle.canpack_top.specs.Check.{HasAll, IsAnswerOf, check_answer, check_meaning, texts_at}
 use Rattle.canpack_top.specs.declared.command.Command.{Command}
 use Rattle.canpack_top.specs.Command.{Names}
 use Rattle.canpack_top.specs.Commands.{meaning_of}
 use Rattle.canpack_top.specs.Files.{problem_at}
 use Rattle.canpack_top.specs.Line.{refused_line}
-use Rattle.canpack_top.specs.Meaning.{Ends, Meaning, Runs, Stops, seen}
-use Rattle.canpack_top.specs.Plan.{PlanPartWritten, PlanWritten, plan_meaning}
-use Rattle.plan_search.specs.Alone.{verdict_alone}
+use Rattle.canpack_top.specs.Meaning.{Answer, Ends, Meaning, Runs, Stops, seen}
+use Rattle.canpack_top.specs.CasePlan.{IsCasePlan, case_plan_answer, case_plan_meaning}
+use Rattle.canpack_top.specs.Plan.{PlanPartWritten, PlanWritten, ShowsPlan, plan_meaning}
 use Rattle.canpack_top.specs.Reads.{ReadsOnly, SomeRose, written_names}
 use Rattle.canpack_top.specs.Verdict.{Finds, IsShown}
-use Rattle.canpack_top.proofs.Planned.{answer_is, is_part_planned, is_plan_answer, is_planned}
+use Rattle.canpack_top.proofs.Planned.{is_part_planned, is_plan_answer, is_planned, not_refused as not_refused_plan, not_rejected}
 
 -- a fact of what there is gives another
 pub ok_and : {X E : Type 0} (r : Result X E) (P Q : X → Type 0) → ((x : X) → P x → Q x) → IsOkAnd r P
@@ -56,6 +56,18 @@ not_refused hyper (found.Rejected failed) = λ h. cc
 is_shown : (hyper : ℕ) (what : Found) → (check_answer hyper what).status ≡ status.Done → IsShown what
 is_shown hyper (found.Shown shown) is = tt
 is_shown hyper (found.Rejected failed) is = cc
+
+-- where nothing was done no count fell
+later_refl : {F : Type 0} {read_faults write_faults given_bytes : F → List ℕ → ℕ} {a : F}
+    → Later read_faults write_faults given_bytes a a
+later_refl =
+    record { read = λ name. omega arith; write = λ name. omega arith; gave = λ name. omega arith }
+
+-- the answer of a generated case that is planned is no refusal
+not_refused_case : (number : ℕ) (answer : Answer) → IsCasePlan number answer → answer.status ≢ status.Refused
+unfolding case_plan_answer
+not_refused_case number answer is h =
+    not_refused_plan is.plan (sym (ap (λ (a : Answer). a.status) is.answers) ∙ h)
 
 -- a count that rose since a later moment, by one count
 at_least_since : (before mid now : ℕ) → before ≤ mid → Rose mid now → Rose before now
@@ -140,38 +152,33 @@ module _ {F : Type 0} {files : F → Files} {read_faults write_faults given_byte
       (λ h. cc) (λ h. cc) only
 
   -- `plan` ran where there is a problem, of which it only reads up to `mid`
-  pub planned : {mid : F} (names : Names) (problem : Parts) (result : Result GivenAnswer Halt)
+  pub planned : {mid : F} (names : Names) (branches : ℕ) (problem : Parts) (result : Result GivenAnswer Halt)
       → (IsSome (files old) → problem_at names (files old) ≡ Ok problem)
       → ReadsOnly files read_faults write_faults given_bytes old mid
-      → IfOk result (λ answer. answer.status ≡ status.Done)
-      → IfOk result (λ answer. PlanWritten names problem answer.line.items (files mid) (files new))
+      → IfOk result (λ answer. PlanWritten names branches problem (seen answer) (files mid) (files new))
       → IfOk result (λ answer. IsSome (files mid) → problem_at names (files mid) ≡ Ok problem
-      → AcceptsWith names (files new) answer.line.items)
-      → (IsErrOf result halt.WriteFault → PlanPartWritten names problem (files mid) (files new))
+      → ShowsPlan names branches (files new) (seen answer))
+      → (IsErrOf result halt.WriteFault → PlanPartWritten names branches problem (files mid) (files new))
       → (IsErrOf result halt.WriteFault → SomeRose (written_names names) (write_faults mid)
       (write_faults new))
       → (IsErrOf result halt.ReadFault → ⊥)
       → (IsErr result → IsErrOf result halt.WriteFault ⊎ (files new ≡ files mid))
       → Later read_faults write_faults given_bytes mid new
-      → Runs (plan_meaning names) files read_faults write_faults given_bytes old new result
-  planned {mid} names problem (Ok answer) stands only done written accepted part rose none same later =
+      → Runs (plan_meaning branches names) files read_faults write_faults given_bytes old new result
+  planned {mid} names branches problem (Ok answer) stands only written accepted part rose none same later =
       record {
         ends = inl (record {
-          has = (
-            problem.hyper,
-            verdict_alone problem written.plan,
-            answer_is (seen answer) problem names
-                (files mid) (files new) done written,
-          );
-          not_refused = λ h. let e : status.Done ≡ status.Refused = sym done ∙ h in cc;
+          has = (problem, (written.plan, written.is_for, written.answers));
+          not_refused = λ h.
+              not_refused_plan written.plan (sym (ap (λ a. a.status) written.answers) ∙ h);
           stand = λ told. ap (λ (r : Result Parts Refusal). option_map refused_line (result_err r)) (stands told);
-          answers = λ told. is_plan_answer names (files old) (files mid) (files new) problem (seen answer)
-              (stands told) done written;
-          leaves = λ told. is_planned names (files old) (files mid) (files new) problem answer.line.items
+          answers = λ told. is_plan_answer names branches (files old) (files mid) (files new) problem
+              (seen answer) (stands told) written;
+          leaves = λ told. is_planned names branches (files old) (files mid) (files new) problem (seen answer)
               (stands told) only.same written;
           shows = λ told. accepted (subst IsSome (sym only.same) told)
               (ap (problem_at names) only.same ∙ stands told);
-          kept = λ h. let e : status.Done ≡ status.Rejected = sym done ∙ h in cc;
+          kept = λ h. absurd (not_rejected written.plan (sym (ap (λ a. a.status) written.answers) ∙ h));
         });
         read_fault = λ h. cc;
         write_fault = λ h. cc;
@@ -180,19 +187,60 @@ module _ {F : Type 0} {files : F → Files} {read_faults write_faults given_byte
         idle = λ h. cc;
         later = later_trans only.later later;
       }
-  planned {mid} names problem (Err why) stands only done written accepted part rose none same later = record {
+  planned {mid} names branches problem (Err why) stands only written accepted part rose none same later = record {
     ends = tt;
     read_fault = λ h. absurd (none h);
     write_fault = λ h. rose_since (written_names names) (write_faults old) (write_faults mid)
         (write_faults new) only.later.write (rose h);
     part = λ h told. (
       ap (λ (r : Result Parts Refusal). option_map refused_line (result_err r)) (stands told),
-      is_part_planned names (files old) (files mid) (files new) problem (stands told) only.same (part h),
+      is_part_planned names branches (files old) (files mid) (files new) problem (stands told) only.same (part h),
     );
     same = λ h. elim (same h) [ inl fault ↦ inl fault | inr is ↦ inr (is ∙ only.same) ];
     idle = λ h. cc;
     later = later_trans only.later later;
   }
+
+  -- `make` without files ran: it touches no file
+  pub case_planned : (number : ℕ) (result : Result GivenAnswer Halt)
+      → IfOk result (λ answer. IsCasePlan number (seen answer))
+      → OnErr result (result ≡ Err halt.Memory)
+      → new ≡ old
+      → Runs (case_plan_meaning number) files read_faults write_faults given_bytes old new result
+  case_planned number result is no_err same = subst
+      (λ n. Runs (case_plan_meaning number) files read_faults write_faults given_bytes old n result)
+      (sym same) (kept number result is no_err)
+    where
+      kept : (number : ℕ) (result : Result GivenAnswer Halt)
+          → IfOk result (λ answer. IsCasePlan number (seen answer))
+          → OnErr result (result ≡ Err halt.Memory)
+          → Runs (case_plan_meaning number) files read_faults write_faults given_bytes old old result
+      kept number (Ok answer) is no_err = record {
+        ends = inl (record {
+          has = is;
+          not_refused = λ h. not_refused_case number (seen answer) is h;
+          stand = λ told. refl;
+          answers = λ told. is;
+          leaves = λ told. refl;
+          shows = λ told. is;
+          kept = λ h. refl;
+        });
+        read_fault = λ h. cc;
+        write_fault = λ h. cc;
+        part = λ h. cc;
+        same = λ h. cc;
+        idle = λ h. refl;
+        later = later_refl;
+      }
+      kept number (Err why) is no_err = record {
+        ends = tt;
+        read_fault = λ h. cc;
+        write_fault = λ h. cc;
+        part = λ h. cc;
+        same = λ h. inr refl;
+        idle = λ h. refl;
+        later = later_refl;
+      }
 
   -- a command that ran with equal names
   pub renamed : {N : Type 0} (meaning : N → Meaning) (names same : N) (result : Result GivenAnswer Halt)

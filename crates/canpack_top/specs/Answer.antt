@@ -41,9 +41,14 @@ WritesPart before now faults_before faults_now meaning =
 abbrev pub IsRefused : Files → Meaning → Type 0
 IsRefused files meaning = IsSome (meaning.first_refusal files)
 
--- the statuses that say the line of a command's answer: done or accepted, a refusal, a rejection
+-- the statuses with which a plan ends: the best was found, there is no solution, or the branches are spent
+abbrev pub IsEnded : ℕ → Type 0
+IsEnded status = (status ≡ 0) ⊎ (status ≡ 10) ⊎ (status ≡ 11)
+
+-- the statuses that say the line of a command's answer: done or accepted, no solution, branches spent, a refusal, a
+-- rejection
 abbrev pub IsAnswered : ℕ → Type 0
-IsAnswered status = (status ≡ 0) ⊎ (status ≡ 4) ⊎ (status ≡ 5)
+IsAnswered status = IsEnded status ⊎ (status ≡ 4) ⊎ (status ≡ 5)
 
 -- a fault or want of memory, in the place of what the files say
 abbrev pub IsExcused : ℕ → Type 0
@@ -57,6 +62,7 @@ LeavesFiles status = (status ≡ 1) ⊎ (status ≡ 2) ⊎ (status ≡ 4) ⊎ (s
 abbrev pub SaysNothing : ℕ → Type 0
 SaysNothing status = (status ≡ 2) ⊎ (status ≡ 3) ⊎ (status ≡ 6)
 
--- a line of which this holds was said
-abbrev pub SaysLine : Option (List ℕ) → Option (List ℕ) → (List ℕ → Type 0) → Type 0
-SaysLine before now P = (line : List ℕ) × (now ≡ and_said before line) × P line
+-- the line of an answer of this status was said, of which this holds
+abbrev pub SaysAnswer : ℕ → Option (List ℕ) → Option (List ℕ) → (Answer → Type 0) → Type 0
+SaysAnswer status before now P =
+    (answer : Answer) × (status ≡ number_of answer.status) × (now ≡ and_said before answer.line) × P answer

@@ -65,10 +65,18 @@ make_of words =
     then option_map (λ number. command.MakeFiles number) (decimal_of 0 1000000 (word words 1))
     else None
 
+-- the command of two words: `make` with a number from 0 to 1000000
+abbrev pub plan_case_of : List (String Global) → Option Command
+plan_case_of words =
+    if bytes_eq (word words 0) (codes "make")
+    then option_map (λ number. command.PlanCase number) (decimal_of 0 1000000 (word words 1))
+    else None
+
 -- the command of the words, where they are the line of one
 abbrev pub command_of : List (String Global) → Option Command
 command_of words =
-    if length words == 4 then make_of words
+    if length words == 2 then plan_case_of words
+    else if length words == 4 then make_of words
     else if length words == 6 then check_of words
     else if length words == 7 then plan_of words
     else None
@@ -80,6 +88,7 @@ HasNames words (command.PlanFiles branches workers) =
     (6 ≤ length words) × IsTrue (are_names (names_in words)) × (1 ≤ branches) × (branches ≤ 1000000)
 HasNames words (command.MakeFiles number) =
     (4 ≤ length words) × IsTrue (are_case_names (case_names_in words)) × (number ≤ 1000000)
+HasNames words (command.PlanCase number) = number ≤ 1000000
 
 -- the names that the code holds
 abbrev pub names_of : GivenNames → Names

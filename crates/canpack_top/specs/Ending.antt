@@ -11,6 +11,8 @@ abbrev pub number_of : Status → ℕ
 number_of status.Done = 0
 number_of status.Refused = 4
 number_of status.Rejected = 5
+number_of status.NoSolution = 10
+number_of status.Spent = 11
 
 -- the stop of a refusal; none stands for want of memory
 abbrev pub stop_of : Option Refusal → Stop

@@ -1,5 +1,5 @@
--- What `check` promises of a network where it answers 0: read this first.
-use Rattle.std.specs.Prelude.{◌≡◌, ℕ, List, Option, None, Some, IsOkAnd}
+-- What `check` promises of a network where it answers 0, and `plan` where it answers 0, 10 or 11: read this first.
+use Rattle.std.specs.Prelude.{◌≡◌, ◌≤◌, ℕ, List, Option, None, Some, IsOkAnd}
 use Rattle.pack_base.specs.Outside.{Files, and_said}
 use Rattle.matrix_text.specs.Frames.{grouping_of}
 use Rattle.matrix_text.specs.OnePlace.{OnePlace}
@@ -9,8 +9,10 @@ use Rattle.bandwidth_bound.specs.Bus.{NeverLate}
 use Rattle.bandwidth_bound.specs.Follows.{EachReaches, NoneIsBetter, NoneIsSolvable}
 use Rattle.bandwidth_bound.specs.Rule.{Judged, load_in}
 use Rattle.bandwidth_bound.specs.Solvable.{Solvable}
+use Rattle.plan_search.specs.Searches.{branches_of}
 use Rattle.canpack_top.specs.Check.{texts_at}
 use Rattle.canpack_top.specs.Command.{Names}
+use Rattle.canpack_top.specs.Files.{problem_at}
 use Rattle.canpack_top.specs.Verdict.{verdict_line}
 
 -- Each signal has one place and none overlap; no release is late in any run of the bus that stands; the matrix's grouping
@@ -35,3 +37,17 @@ Promises (verdict.Between (Some best) lower) judged = IsInTime judged best × Ea
 abbrev pub Headline : Names → Files → Option (List ℕ) → Option (List ℕ) → Type 0
 Headline names files said_before said_now = IsOkAnd (texts_at names files) (λ judged. (shown : Verdict)
     × (said_now ≡ and_said said_before (verdict_line judged.problem.hyper shown)) × Promises shown judged)
+
+-- the matrix of the four files is in time with some load, and no grouping that can meet all deadlines has a smaller
+-- one
+abbrev pub HasBest : Names → Files → Type 0
+HasBest names files = IsOkAnd (texts_at names files) (λ judged. (load : ℕ) × IsInTime judged load
+    × NoneIsBetter judged.problem load)
+
+-- no grouping of the problem of the files can meet all deadlines
+abbrev pub HasNone : Names → Files → Type 0
+HasNone names files = IsOkAnd (texts_at names files) (λ judged. NoneIsSolvable judged.problem)
+
+-- so many branches are at least the count of branches of the problem of two files
+abbrev pub IsEnough : ℕ → Names → Files → Type 0
+IsEnough branches names files = IsOkAnd (problem_at names files) (λ problem. branches_of problem ≤ branches)

@@ -11,5 +11,6 @@ pub mod Check
 pub mod Headline
 pub mod Plan
 pub mod Make
+pub mod CasePlan
 pub mod Commands
 pub mod Answer

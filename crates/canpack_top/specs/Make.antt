@@ -18,11 +18,15 @@ case_network_text number = network_text (case_of number).network
 unfoldable pub case_signals_text : ℕ → List ℕ
 case_signals_text number = signals_text (case_of number).signals
 
--- the line that says a number, and how many signals and senders a problem has
-abbrev pub count_line : ℕ → Parts → List ℕ
-count_line number problem =
+-- the words that say a number, and how many signals and senders a problem has, and what follows them
+abbrev pub count_words : ℕ → Parts → List ℕ → List ℕ
+count_words number problem rest =
     codes "case " ++ (decimal number ++ (codes " signals " ++ (decimal (length problem.signals)
-    ++ (codes " senders " ++ (decimal (length problem.senders) ++ codes "\n")))))
+    ++ (codes " senders " ++ (decimal (length problem.senders) ++ rest)))))
+
+-- the line of these words alone
+abbrev pub count_line : ℕ → Parts → List ℕ
+count_line number problem = count_words number problem (codes "\n")
 
 -- the line of the case of a number
 unfoldable pub case_line : ℕ → List ℕ

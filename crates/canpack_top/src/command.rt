@@ -11,6 +11,7 @@ ghost use Rattle.canpack_top.specs.Command.{
   make_of,
   names_in,
   names_of,
+  plan_case_of,
   plan_of,
 };
 
@@ -41,6 +42,8 @@ pub enum Command {
     PlanFiles { branches: u64, workers: u32 },
     /// Writes the generated case of this number, 0 to 1000000.
     MakeFiles { number: u32 },
+    /// Plans the generated case of this number, 0 to 1000000, in memory.
+    PlanCase { number: u32 },
 }
 
 /// Whether no name is empty and no two are equal.
@@ -158,6 +161,22 @@ fn make_of(words: &[String]) -> Option<Command>
     }
 }
 
+fn plan_case_of(words: &[String]) -> Option<Command>
+    requires { length words.now ≡ 2 }
+    ensures exact { result ≡ plan_case_of words.now }
+    ensures names { IfSome result (HasNames words.now) }
+{
+    if words[0].as_str() != "make" {
+        return None;
+    }
+    match decimal_in(words[1].as_bytes(), 0, 1_000_000) {
+        Some(number) => Some(Command::PlanCase {
+            number: number as u32,
+        }),
+        None => None,
+    }
+}
+
 /// The command of the words that follow the program's name, or `None` where they are the line of no command that
 /// is built.
 pub fn command_of(words: &[String]) -> Option<Command>
@@ -165,6 +184,7 @@ pub fn command_of(words: &[String]) -> Option<Command>
     ensures names { IfSome result (HasNames words.now) }
 {
     match words.len() {
+        2 => plan_case_of(words),
         4 => make_of(words),
         6 => check_of(words),
         7 => plan_of(words),

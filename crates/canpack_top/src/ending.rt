@@ -12,13 +12,17 @@ pub enum Status {
     Refused,
     /// The acceptance rule doesn't hold.
     Rejected,
+    /// No grouping can meet all deadlines.
+    NoSolution,
+    /// The branches of a plan are spent.
+    Spent,
 }
 
 impl Status {
     ghost use Rattle.std.specs.Prelude.{◌≡◌};
     ghost use Rattle.canpack_top.specs.Ending.{number_of};
 
-    /// Its number: 0, 4 or 5.
+    /// Its number: 0, 4, 5, 10 or 11.
     pub fn number(self) -> u8
         ensures { result ≡ number_of self }
     {
@@ -26,6 +30,8 @@ impl Status {
             Status::Done => 0,
             Status::Refused => 4,
             Status::Rejected => 5,
+            Status::NoSolution => 10,
+            Status::Spent => 11,
         }
     }
 }

@@ -4,6 +4,7 @@
 //! counted faults give its cause, and what is said and left at each status.
 #![tactic(auto)]
 
+mod case_plan;
 mod check;
 mod command;
 mod ending;

@@ -1,19 +1,34 @@
 //! The texts and the line of a plan, made before anything is written.
-ghost use Rattle.std.specs.Prelude.{IfOk};
-ghost use Rattle.canpack_top.specs.Plan.{AreMade, IsMade};
+ghost use Rattle.std.specs.Prelude.{◌≡◌, ◌≤◌, [], IfOk, unwrap_or};
+ghost use Rattle.bandwidth_bound.specs.declared.verdict.Verdict.{Verdict};
+ghost use Rattle.bandwidth_bound.specs.Follows.{Holds};
+ghost use Rattle.bandwidth_bound.specs.Rule.{Accepts};
+ghost use Rattle.plan_search.specs.Plan.{cert_of_plan, matrix_of_plan};
+ghost use Rattle.canpack_top.specs.Plan.{AreMade, IsMade, plan_status};
 
-use crate::verdict::{Found, found_line};
+use crate::ending::Status;
+use crate::verdict::{Found, found_line, judge};
 use bandwidth_bound::Verdict;
-use cert_text::{Cert, Kind, write_cert};
+use cert_text::{Cert, write_cert};
 use matrix_text::{Matrix, write_matrix};
 use pack_model::{Memory, Problem};
-use plan_search::{Alone, load_alone, plan_alone};
+use plan_search::{Planned, plan};
 use std::alloc::Global;
 
-/// A plan: its matrix, its certificate, and what the certificate shows.
+/// How a plan ends, with its matrix and its certificate.
 #[derive(Debug, Drop)]
-pub struct Planned {
-    /// The matrix that is planned.
+struct Outcome {
+    status: Status,
+    matrix: Matrix,
+    cert: Cert,
+}
+
+/// A plan: how it ends, its matrix, its certificate, and what the certificate shows.
+#[derive(Debug, Drop)]
+pub struct Made {
+    /// How it ends.
+    pub status: Status,
+    /// The matrix that is planned; without one it has no rows.
     pub matrix: Matrix,
     /// Its certificate.
     pub cert: Cert,
@@ -24,6 +39,8 @@ pub struct Planned {
 /// The texts of a plan.
 #[derive(Debug, Drop)]
 pub struct PlanTexts {
+    /// How the plan ends.
+    pub status: Status,
     /// The text of the matrix.
     pub matrix: Vec<u8>,
     /// The text of the certificate.
@@ -32,34 +49,96 @@ pub struct PlanTexts {
     pub line: Vec<u8>,
 }
 
-/// The plan for a problem. The only error is want of memory.
-fn made(alloc: Global, problem: &Problem) -> Result<Planned, Memory>
-    ensures { IfOk result (IsMade problem.now) }
+/// A matrix without rows.
+fn no_rows(alloc: Global) -> Matrix
+    ensures { result ≡ [] }
 {
-    match plan_alone(alloc, problem)? {
-        Alone::InTime(matrix, cert) => Ok(Planned {
-            matrix,
-            cert,
-            shown: Verdict::Timed {
-                load: load_alone(alloc, problem)?,
-            },
-        }),
-        Alone::Untimed(matrix) => Ok(Planned {
-            matrix,
-            cert: Cert::of(Kind::KindPlaced, Vec::new(alloc), Vec::new(alloc), None),
-            shown: Verdict::Placed,
-        }),
+    Matrix::of(Vec::new(alloc))
+}
+
+/// The matrix, or one without rows.
+fn rows_of(alloc: Global, matrix: Option<Matrix>) -> Matrix
+    ensures { result ≡ unwrap_or matrix [] }
+{
+    match matrix {
+        Some(matrix) => matrix,
+        None => no_rows(alloc),
     }
 }
 
-/// The texts and the line of the plan for a problem. The only error is want of memory.
-pub(crate) fn plan_texts(alloc: Global, problem: &Problem) -> Result<PlanTexts, Memory>
-    ensures { IfOk result (AreMade problem.now) }
+/// The status, the matrix and the certificate of a plan.
+fn outcome_of(alloc: Global, planned: Planned) -> Outcome
+    ensures status { result.status ≡ plan_status planned }
+    ensures matrix { result.matrix ≡ matrix_of_plan planned }
+    ensures cert { result.cert ≡ cert_of_plan planned }
 {
-    let plan = made(alloc, problem)?;
+    match planned {
+        Planned::Best(matrix, cert) => Outcome {
+            status: Status::Done,
+            matrix,
+            cert,
+        },
+        Planned::NoSolution(cert) => Outcome {
+            status: Status::NoSolution,
+            matrix: no_rows(alloc),
+            cert,
+        },
+        Planned::Spent(matrix, cert) => Outcome {
+            status: Status::Spent,
+            matrix: rows_of(alloc, matrix),
+            cert,
+        },
+    }
+}
+
+/// The verdict that was found of what is accepted.
+fn shown_of(found: Found) -> Verdict
+    requires { (shown : Verdict) × (found ≡ Found.Shown shown) }
+    ensures { found ≡ Found.Shown result }
+{
+    match found {
+        Found::Shown(shown) => shown,
+        Found::Rejected(_) => unreachable!(),
+    }
+}
+
+/// The plan for a problem within so many branches, from 1 to 1000000. The only error is want of memory.
+pub(crate) fn make_plan(alloc: Global, problem: &Problem, branches: u64) -> Result<Made, Memory>
+    requires some { 1 ≤ branches }
+    requires most { branches ≤ 1000000 }
+    ensures { IfOk result (IsMade problem.now branches) }
+{
+    let Outcome {
+        status,
+        matrix,
+        cert,
+    } = outcome_of(alloc, plan(alloc, problem, branches)?);
+    let found = judge(alloc, problem, &matrix, &cert)?;
+    let shown = shown_of(found);
+    Ok(Made {
+        status,
+        matrix,
+        cert,
+        shown,
+    })
+}
+
+/// The texts and the line of the plan for a problem within so many branches, from 1 to 1000000. The only error is
+/// want of memory.
+pub(crate) fn plan_texts(
+    alloc: Global,
+    problem: &Problem,
+    branches: u64,
+) -> Result<PlanTexts, Memory>
+    requires some { 1 ≤ branches }
+    requires most { branches ≤ 1000000 }
+    ensures { IfOk result (AreMade problem.now branches) }
+{
+    let made = make_plan(alloc, problem, branches)?;
     Ok(PlanTexts {
-        matrix: write_matrix(alloc, &plan.matrix)?,
-        cert: write_cert(alloc, &plan.cert, false)?,
-        line: found_line(alloc, Found::Shown(plan.shown), problem.hyper())?,
+        status: made.status,
+        matrix: write_matrix(alloc, &made.matrix)?,
+        cert: write_cert(alloc, &made.cert, true)?,
+        line: found_line(alloc, Found::Shown(made.shown), problem.hyper())?,
     })
 }

@@ -3,6 +3,7 @@ ghost use Rattle.canpack_top.specs.Command.{HasNames};
 ghost use Rattle.canpack_top.specs.Commands.{meaning_of};
 ghost use Rattle.canpack_top.specs.Meaning.{Runs};
 
+use crate::case_plan::plan_case;
 use crate::check::check;
 use crate::command::{Command, case_names_in, names_in};
 use crate::ending::{Answer, Halt};
@@ -24,7 +25,8 @@ pub fn run<F: Folder>(
 {
     match command {
         Command::CheckFiles { .. } => check(alloc, folder, names_in(words)),
-        Command::PlanFiles { .. } => plan(alloc, folder, names_in(words)),
+        Command::PlanFiles { branches, .. } => plan(alloc, folder, names_in(words), branches),
         Command::MakeFiles { number } => make(alloc, folder, number, case_names_in(words)),
+        Command::PlanCase { number } => plan_case(alloc, folder, number),
     }
 }

@@ -1,11 +1,12 @@
 //! The top call over an outside that never fails.
-ghost use Rattle.std.specs.Prelude.{◌≡◌, ◌≢◌, ◌⊎◌, ℕ, List, IsNone, IsOk};
+ghost use Rattle.std.specs.Prelude.{◌≡◌, ◌≢◌, ◌⊎◌, ℕ, IsNone, IsOk};
 ghost use Rattle.pack_base.specs.SteadyFolder.{files_of};
-ghost use Rattle.canpack_top.specs.Answer.{IsRefused};
+ghost use Rattle.canpack_top.specs.Answer.{IsEnded, IsRefused};
 ghost use Rattle.canpack_top.specs.Check.{Accepts, HasNoneLate, HasOnePlace, HasPassing, texts_at};
 ghost use Rattle.canpack_top.specs.Command.{command_of, names_in};
 ghost use Rattle.canpack_top.specs.Commands.{IsCheck, IsPlan, OfCommand};
 ghost use Rattle.canpack_top.specs.Files.{problem_at};
+ghost use Rattle.canpack_top.specs.Meaning.{Answer};
 ghost use Rattle.canpack_top.specs.Plan.{IsPlanned};
 
 use crate::top::canpack;
@@ -38,11 +39,13 @@ pub fn canpack_steady<R: Threads, G: Gate + Sync>(
         → HasNoneLate (names_in words.now) (files_of folder.old) }
     ensures files { IsCheck words.now → files_of folder.new ≡ files_of folder.old }
 
-    // `plan` says that it is done only where both files are written.
-    ensures planned { result ≡ 0 → IsPlan words.now
-        → (line : List ℕ) × IsPlanned (names_in words.now) (files_of folder.old) (files_of folder.new) line }
-    ensures plans { IsPlan words.now → IsOk (problem_at (names_in words.now) (files_of folder.old))
-        → (result ≡ 0) ⊎ (result ≡ 3) ⊎ (result ≡ 6) }
+    // `plan` says that it ended only where both files are written.
+    ensures planned { IsEnded result → (branches : ℕ) → IsPlan branches words.now
+        → (answer : Answer) × IsPlanned (names_in words.now) branches
+        (files_of folder.old) (files_of folder.new) answer }
+    ensures plans { (branches : ℕ) → IsPlan branches words.now
+        → IsOk (problem_at (names_in words.now) (files_of folder.old))
+        → IsEnded result ⊎ (result ≡ 3) ⊎ (result ≡ 6) }
 {
     canpack(rt, alloc, words, folder, &mut NullSink, gate)
 }

@@ -5,27 +5,28 @@ ghost use Rattle.pack_base.specs.Outside.{Later, SaidPart, and_said};
 ghost use Rattle.canpack_top.specs.Answer.{
   Answered,
   IsAnswered,
+  IsEnded,
   IsExcused,
   IsRefused,
   LeavesFiles,
-  SaysLine,
+  SaysAnswer,
   SaysNothing,
   SaysPart,
   WritesPart,
 };
 ghost use Rattle.canpack_top.specs.Check.{
   Accepts,
-  AcceptsWith,
   HasNoneLate,
   HasOnePlace,
   HasPassing,
   Rejects,
   texts_at,
 };
+ghost use Rattle.canpack_top.specs.CasePlan.{IsCasePlan};
 ghost use Rattle.canpack_top.specs.Command.{case_names_in, command_of, names_in};
-ghost use Rattle.canpack_top.specs.Commands.{IsCheck, IsMake, IsPlan, OfCommand};
+ghost use Rattle.canpack_top.specs.Commands.{IsCheck, IsMake, IsPlan, IsPlanCase, OfCommand};
 ghost use Rattle.canpack_top.specs.Files.{problem_at};
-ghost use Rattle.canpack_top.specs.Headline.{Headline};
+ghost use Rattle.canpack_top.specs.Headline.{Headline, HasBest, HasNone, IsEnough};
 ghost use Rattle.canpack_top.specs.Line.{usage_line};
 ghost use Rattle.canpack_top.specs.Make.{CaseWritten, HasCase, case_line};
 ghost use Rattle.canpack_top.specs.Plan.{IsPlanned};
@@ -91,7 +92,8 @@ fn status_of<F: Folder, O: Sink>(alloc: Global, words: &[String], folder: &mut F
 }
 
 /// Does what the words ask for, and answers the status: 0 done, 1 usage, 2 a read fault, 3 a write fault, 4 a
-/// refused text, 5 a rejected certificate, 6 want of memory, 7 a fault in saying the line.
+/// refused text, 5 a rejected certificate, 6 want of memory, 7 a fault in saying the line, 10 no solution, 11 branches
+/// spent.
 pub fn canpack<R: Threads, F: Folder, O: Sink, G: Gate + Sync>(
     _rt: &R,
     alloc: Global,
@@ -149,18 +151,30 @@ pub fn canpack<R: Threads, F: Folder, O: Sink, G: Gate + Sync>(
         → ¬ Accepts (names_in words.now) (F.files folder.old) → (result ≡ 5) ⊎ IsExcused result }
     ensures check { IsCheck words.now → F.files folder.new ≡ F.files folder.old }
 
-    // `plan` is done exactly where there is a problem; it wrote the plan for it and said its line, and `check`
-    // accepts what it wrote, with that line.
-    ensures planned { result ≡ 0 → IsSome (F.files folder.old) → IsPlan words.now
-        → SaysLine (O.said out.old) (O.said out.new)
-        (IsPlanned (names_in words.now) (F.files folder.old) (F.files folder.new)) }
-    ensures accepted_after { result ≡ 0 → IsSome (F.files folder.old) → IsPlan words.now
+    // `plan` ends exactly where there is a problem: it wrote the plan for it within its branches and said its line;
+    // `check` accepts what it wrote, with that line, and what the line promises holds. At 0 no grouping that can meet
+    // all deadlines has a smaller load, at 10 there is none, and with enough branches it is one of the two.
+    ensures planned { IsEnded result → IsSome (F.files folder.old)
+        → (branches : ℕ) → IsPlan branches words.now
+        → SaysAnswer result (O.said out.old) (O.said out.new)
+        (IsPlanned (names_in words.now) branches (F.files folder.old) (F.files folder.new)) }
+    ensures accepted_after { IsEnded result → IsSome (F.files folder.old)
+        → (branches : ℕ) → IsPlan branches words.now
         → Accepts (names_in words.now) (F.files folder.new) }
-    ensures accepted_line { result ≡ 0 → IsSome (F.files folder.old) → IsPlan words.now
-        → SaysLine (O.said out.old) (O.said out.new) (AcceptsWith (names_in words.now) (F.files folder.new)) }
-    ensures plans { IsSome (F.files folder.old) → IsPlan words.now
+    ensures plan_headline { IsEnded result → IsSome (F.files folder.old)
+        → (branches : ℕ) → IsPlan branches words.now
+        → Headline (names_in words.now) (F.files folder.new) (O.said out.old) (O.said out.new) }
+    ensures best { result ≡ 0 → IsSome (F.files folder.old) → (branches : ℕ) → IsPlan branches words.now
+        → HasBest (names_in words.now) (F.files folder.new) }
+    ensures no_solution { result ≡ 10 → IsSome (F.files folder.old)
+        → (branches : ℕ) → IsPlan branches words.now
+        → HasNone (names_in words.now) (F.files folder.new) }
+    ensures plans { IsSome (F.files folder.old) → (branches : ℕ) → IsPlan branches words.now
         → IsOk (problem_at (names_in words.now) (F.files folder.old))
-        → (result ≡ 0) ⊎ IsExcused result }
+        → IsEnded result ⊎ IsExcused result }
+    ensures solves { IsSome (F.files folder.old) → (branches : ℕ) → IsPlan branches words.now
+        → IsEnough branches (names_in words.now) (F.files folder.old)
+        → (result ≡ 0) ⊎ (result ≡ 10) ⊎ IsExcused result }
 
     // `make` leaves exactly the two texts of the generated case, which are read as it, and says its line; it fails
     // only by a write, by saying, or by want of memory.
@@ -172,6 +186,13 @@ pub fn canpack<R: Threads, F: Folder, O: Sink, G: Gate + Sync>(
         → O.said out.new ≡ and_said (O.said out.old) (case_line number) }
     ensures makes { IsSome (F.files folder.old) → (number : ℕ) → IsMake number words.now
         → (result ≡ 0) ⊎ (result ≡ 3) ⊎ (result ≡ 6) ⊎ (result ≡ 7) }
+
+    // `make` without files ends as the plan for the case does, within 100000 branches, and says its line; it fails only
+    // by saying, or by want of memory.
+    ensures case_planned { IsEnded result → (number : ℕ) → IsPlanCase number words.now
+        → SaysAnswer result (O.said out.old) (O.said out.new) (IsCasePlan number) }
+    ensures case_plans { IsSome (F.files folder.old) → (number : ℕ) → IsPlanCase number words.now
+        → IsEnded result ⊎ (result ≡ 6) ⊎ (result ≡ 7) }
 {
     status_of(alloc, words, folder, out)
 }

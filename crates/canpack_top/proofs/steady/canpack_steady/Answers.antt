@@ -13,6 +13,6 @@ returns-clause-refuses g c = λ refused.
     (λ seven. let rose = c.canpack.ensures.say_fault seven in omega (arith, rose)) c.canpack.ensures.write_fault
 
 pub returns-clause-planned : goal.returns-clause-planned
-returns-clause-planned g c = λ zero plan.
-    let said = c.canpack.ensures.planned zero refl plan in
-    (said.0, said.2)
+returns-clause-planned g c = λ ends branches plan.
+    let said = c.canpack.ensures.planned ends refl branches plan in
+    (said.0, said.3)

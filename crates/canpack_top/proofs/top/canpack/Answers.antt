@@ -10,12 +10,16 @@ use Rattle.canpack_top.proofs.CommandLaws.{
   check_rejected,
   check_rejects,
   plan_accepted,
-  plan_accepted_line,
+  plan_best,
   plan_done,
+  plan_headline,
+  plan_none,
   plan_plans,
+  plan_solves,
   refused_text,
   text_refused,
 }
+use Rattle.canpack_top.proofs.CaseLaws.{case_ended, case_plans}
 use Rattle.canpack_top.proofs.MakeLaws.{make_done, make_reads, make_said, make_written}
 use Rattle.canpack_top.proofs.top.canpack.Goals as goal
 
@@ -103,12 +107,26 @@ returns-clause-accepted_after g c =
     record { statuses = c.status_of.ensures.statuses; usage = λ one. (c.status_of.ensures.usage one).0; answered = c.status_of.ensures.answered } in
     plan_accepted called
 
-pub returns-clause-accepted_line : goal.returns-clause-accepted_line
-returns-clause-accepted_line g c =
+pub returns-clause-plan_headline : goal.returns-clause-plan_headline
+returns-clause-plan_headline g c =
     let called : Called c.args.words.now (g.F.Folder.files c.args.folder.now) (g.F.Folder.files c.status_of.new.folder)
     (g.O.Sink.said c.args.out.now) (g.O.Sink.said c.status_of.new.out) c.status_of.result =
     record { statuses = c.status_of.ensures.statuses; usage = λ one. (c.status_of.ensures.usage one).0; answered = c.status_of.ensures.answered } in
-    plan_accepted_line called
+    plan_headline called
+
+pub returns-clause-best : goal.returns-clause-best
+returns-clause-best g c =
+    let called : Called c.args.words.now (g.F.Folder.files c.args.folder.now) (g.F.Folder.files c.status_of.new.folder)
+    (g.O.Sink.said c.args.out.now) (g.O.Sink.said c.status_of.new.out) c.status_of.result =
+    record { statuses = c.status_of.ensures.statuses; usage = λ one. (c.status_of.ensures.usage one).0; answered = c.status_of.ensures.answered } in
+    plan_best called
+
+pub returns-clause-no_solution : goal.returns-clause-no_solution
+returns-clause-no_solution g c =
+    let called : Called c.args.words.now (g.F.Folder.files c.args.folder.now) (g.F.Folder.files c.status_of.new.folder)
+    (g.O.Sink.said c.args.out.now) (g.O.Sink.said c.status_of.new.out) c.status_of.result =
+    record { statuses = c.status_of.ensures.statuses; usage = λ one. (c.status_of.ensures.usage one).0; answered = c.status_of.ensures.answered } in
+    plan_none called
 
 pub returns-clause-plans : goal.returns-clause-plans
 returns-clause-plans g c =
@@ -116,6 +134,13 @@ returns-clause-plans g c =
     (g.O.Sink.said c.args.out.now) (g.O.Sink.said c.status_of.new.out) c.status_of.result =
     record { statuses = c.status_of.ensures.statuses; usage = λ one. (c.status_of.ensures.usage one).0; answered = c.status_of.ensures.answered } in
     plan_plans called
+
+pub returns-clause-solves : goal.returns-clause-solves
+returns-clause-solves g c =
+    let called : Called c.args.words.now (g.F.Folder.files c.args.folder.now) (g.F.Folder.files c.status_of.new.folder)
+    (g.O.Sink.said c.args.out.now) (g.O.Sink.said c.status_of.new.out) c.status_of.result =
+    record { statuses = c.status_of.ensures.statuses; usage = λ one. (c.status_of.ensures.usage one).0; answered = c.status_of.ensures.answered } in
+    plan_solves called
 
 pub returns-clause-check : goal.returns-clause-check
 returns-clause-check g c = λ check. c.status_of.ensures.idle (check_idle c.args.words.now check)
@@ -148,3 +173,20 @@ returns-clause-makes g c = λ told number make.
     record { statuses = c.status_of.ensures.statuses; usage = λ one. (c.status_of.ensures.usage one).0; answered = c.status_of.ensures.answered } in
     make_done called number make (g.F.Folder.read_faults c.args.folder.now) (g.F.Folder.read_faults c.status_of.new.folder)
     c.status_of.ensures.read_fault told
+
+pub returns-clause-case_planned : goal.returns-clause-case_planned
+returns-clause-case_planned g c = λ ends number plan.
+    let called : Called c.args.words.now (g.F.Folder.files c.args.folder.now) (g.F.Folder.files c.status_of.new.folder)
+    (g.O.Sink.said c.args.out.now) (g.O.Sink.said c.status_of.new.out) c.status_of.result =
+    record { statuses = c.status_of.ensures.statuses; usage = λ one. (c.status_of.ensures.usage one).0; answered = c.status_of.ensures.answered } in
+    case_ended called number plan ends
+
+pub returns-clause-case_plans : goal.returns-clause-case_plans
+returns-clause-case_plans g c = λ told number plan.
+    let called : Called c.args.words.now (g.F.Folder.files c.args.folder.now) (g.F.Folder.files c.status_of.new.folder)
+    (g.O.Sink.said c.args.out.now) (g.O.Sink.said c.status_of.new.out) c.status_of.result =
+    record { statuses = c.status_of.ensures.statuses; usage = λ one. (c.status_of.ensures.usage one).0; answered = c.status_of.ensures.answered } in
+    case_plans called number plan (g.F.Folder.read_faults c.args.folder.now)
+    (g.F.Folder.read_faults c.status_of.new.folder)
+    (g.F.Folder.write_faults c.args.folder.now) (g.F.Folder.write_faults c.status_of.new.folder)
+    c.status_of.ensures.read_fault c.status_of.ensures.write_fault told
