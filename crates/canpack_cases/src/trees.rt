@@ -12,7 +12,7 @@ const FULL: &[u8] =
     b"signal,sender,pdu,bits,period_us,deadline_us,jitter_us\nS1,ECU1,,512,1000,1000,0\nS2,ECU2,,512,1000,1000,0\nS3,ECU3,,512,1000,1000,0\n";
 
 /// MATRIX and CERT of the two signals of one sender, with the status and what is said.
-const TREES: [(&[u8], &[u8], u8, &[u8]); 24] = [
+const TREES: [(&[u8], &[u8], u8, &[u8]); 27] = [
     // One frame is best: apart the signals load more. With marks it says the same.
     (
         MATRIX,
@@ -45,14 +45,21 @@ const TREES: [(&[u8], &[u8], u8, &[u8]); 24] = [
         5,
         b"rejected tree\n",
     ),
-    // One signal alone loads less than the best: no bound leaf stands there.
+    // With one signal placed the bound is 56000 eighths and 3200 for the other, which is what the best loads; with none it
+    // is 6400.
     (
         MATRIX,
         b"canpack certificate 1\nkind best\nframe 7400 0\nmain\ni 1\nb\nend\n",
+        0,
+        b"best 7400/800000\n",
+    ),
+    (
+        MATRIX,
+        b"canpack certificate 1\nkind best\nframe 7400 0\nmain\nb\nend\n",
         5,
         b"rejected tree\n",
     ),
-    // Leaves that the kind doesn't have, and lemmas, which aren't judged yet.
+    // Leaves that the kind doesn't have; lemmas: one that stands, one an eighth above its bound, one of no sender.
     (
         MATRIX,
         b"canpack certificate 1\nkind best\nframe 7400 0\nmain\ni 1\no\nend\n",
@@ -61,7 +68,19 @@ const TREES: [(&[u8], &[u8], u8, &[u8]); 24] = [
     ),
     (
         MATRIX,
-        b"canpack certificate 1\nkind best\nframe 7400 0\nlemma 0 0\nb\nmain\ni 1\ni 2\nb\nb\nend\n",
+        b"canpack certificate 1\nkind best\nframe 7400 0\nlemma 0 6400\nb\nmain\ni 1\ni 2\nb\nb\nend\n",
+        0,
+        b"best 7400/800000\n",
+    ),
+    (
+        MATRIX,
+        b"canpack certificate 1\nkind best\nframe 7400 0\nlemma 0 6401\nb\nmain\ni 1\ni 2\nb\nb\nend\n",
+        5,
+        b"rejected tree\n",
+    ),
+    (
+        MATRIX,
+        b"canpack certificate 1\nkind best\nframe 7400 0\nlemma 1 0\nb\nmain\ni 1\ni 2\nb\nb\nend\n",
         5,
         b"rejected tree\n",
     ),
@@ -120,7 +139,7 @@ const TREES: [(&[u8], &[u8], u8, &[u8]); 24] = [
         TWO_FRAMES,
         b"canpack certificate 1\nkind open\nframe 14000 7000\nframe 14000 7000\nmain\ni 1\no\nend\n",
         0,
-        b"open 14000/800000 56000/6400000\n",
+        b"open 14000/800000 59200/6400000\n",
     ),
     (
         MATRIX,

@@ -56,47 +56,28 @@ fn go_down(partial: &mut Partial, problem: &Problem)
     }
 }
 
-/// Together their frame has 2 bytes and takes 7400 ticks; apart they take 7000 each.
+/// Signals of half a byte share a frame of one byte, which takes 7000 ticks; apart each leaves 4 bits free, of 10 times 40
+/// eighths each.
 #[test]
 fn together_and_apart(rt: HostRuntime) {
     are_shared::<Partial>();
-    let problem = two_signals(&rt, rt.alloc(), 8);
+    let problem = two_signals(&rt, rt.alloc(), 4);
     let mut partial = Partial::whole(rt.alloc(), &problem).expect(&rt, "memory");
     assert_eq!(rt; partial.options(&problem), 1);
     go_down(&mut partial, &problem);
-    assert_eq!(rt; partial.options(&problem), 2);
     assert_eq!(rt; partial.kept_load(), 7000);
+    assert_eq!(rt; partial.kept_slack(), 1600);
     go_down(&mut partial, &problem);
     assert_eq!(rt; partial.options(&problem), 0);
-    assert_eq!(rt; partial.kept_load(), 7400);
+    assert_eq!(rt; partial.kept_load(), 7000);
+    assert_eq!(rt; partial.kept_slack(), 0);
     assert!(rt; partial.leave(&problem, 0));
-    assert_eq!(rt; partial.classes(), 2);
+    assert_eq!(rt; partial.frames().len(), 2);
     assert_eq!(rt; partial.kept_load(), 14000);
+    assert_eq!(rt; partial.kept_slack(), 3200);
     assert!(rt; !partial.leave(&problem, 0));
-    assert_eq!(rt; partial.kept_load(), 0);
     if problem.senders().len() == 1 {
         let one = Partial::of_sender(rt.alloc(), &problem, 0).expect(&rt, "memory");
         assert_eq!(rt; one.range(), Some(0));
-        assert_eq!(rt; one.options(&problem), 1);
-        let mut again = Partial::whole(rt.alloc(), &problem).expect(&rt, "memory");
-        again.restart(&problem, Some(0));
-        assert_eq!(rt; again.range(), Some(0));
     }
-}
-
-/// Signals of half a byte leave 4 bits free apart, of 10 times 40 eighths each, and none together.
-#[test]
-fn slack_and_frames(rt: HostRuntime) {
-    let problem = two_signals(&rt, rt.alloc(), 4);
-    let mut partial = Partial::whole(rt.alloc(), &problem).expect(&rt, "memory");
-    assert_eq!(rt; partial.kept_slack(), 0);
-    assert_eq!(rt; partial.frames().len(), 0);
-    go_down(&mut partial, &problem);
-    assert_eq!(rt; partial.kept_slack(), 1600);
-    go_down(&mut partial, &problem);
-    assert_eq!(rt; partial.kept_slack(), 0);
-    assert_eq!(rt; partial.frames().len(), 1);
-    assert!(rt; partial.leave(&problem, 0));
-    assert_eq!(rt; partial.kept_slack(), 3200);
-    assert_eq!(rt; partial.frames().len(), 2);
 }
