@@ -122,7 +122,7 @@ fn shard_at(marks: bool, depth: u32) -> Option<Next>
     ensures { option_map next_pieces result ≡ marked_tree marks depth }
 {
     if marks {
-        Some(both(Symbol::TreeAt(false, depth), Symbol::Join))
+        Some(both(Symbol::TreeAt(false, depth), Symbol::Join(depth)))
     } else {
         None
     }
@@ -159,7 +159,7 @@ fn next_of(symbol: Symbol, line: &Line) -> Option<Next>
             Some(both(Symbol::TreeAt(true, 0), Symbol::End))
         }
         (Symbol::Against, Line::AgainstLine(_, _)) => Some(nothing()),
-        (Symbol::Join, Line::JoinLine) => Some(nothing()),
+        (Symbol::Join(_), Line::JoinLine) => Some(nothing()),
         (Symbol::End, Line::EndLine) => Some(nothing()),
         _ => None,
     }
