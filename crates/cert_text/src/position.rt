@@ -4,6 +4,7 @@ ghost use Rattle.std.specs.Option.{option_map};
 ghost use Rattle.std.specs.Prelude.{◌⊎◌, ◌==◌};
 ghost use Rattle.std.specs.List.{list_all};
 ghost use Rattle.cert_text.specs.declared.symbol.Symbol.TheVariants as symbol;
+ghost use Rattle.cert_text.specs.Depths.{depth_of};
 ghost use Rattle.cert_text.specs.Grammar.{after, body, expand, marked_tree, start, subtrees};
 ghost use Rattle.cert_text.specs.Pieces.{next_pieces, of_run, pieces};
 
@@ -195,6 +196,16 @@ fn take_first(runs: &mut Vec<Run>) -> Result<Option<Symbol>, Memory>
     Ok(None)
 }
 
+// How many inner nodes lack subtrees where this piece comes next.
+fn depth_at(symbol: Symbol) -> u32
+    ensures { result ≡ depth_of (symbol ∷ []) }
+{
+    match symbol {
+        Symbol::TreeAt(_, depth) | Symbol::Join(depth) => depth,
+        _ => 0,
+    }
+}
+
 fn no_pieces(runs: &[Run]) -> bool
     ensures { result ≡ list_all (λ r. r.count == 0) runs.now }
 {
@@ -226,6 +237,21 @@ impl Position {
         put(&mut self.runs, next.second)?;
         put(&mut self.runs, next.first)?;
         Ok(true)
+    }
+
+    /// How many inner nodes lack subtrees.
+    pub fn depth(&self) -> usize
+        ensures { result ≡ depth_of self.now }
+    {
+        let mut place = self.runs.len();
+        while place > 0 {
+            place -= 1;
+            let run = self.runs[place];
+            if run.count > 0 {
+                return depth_at(run.symbol) as usize;
+            }
+        }
+        0
     }
 
     /// Whether nothing is to come any more.
