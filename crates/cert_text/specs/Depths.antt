@@ -1,5 +1,8 @@
 -- How deep a feed stands, and when it may go on.
-use Rattle.std.specs.Prelude.{◌≢◌, ◌<◌, ◌≤◌, ◌+◌, ◌^◌, ℕ, List, [], ◌∷◌, length}
+use Rattle.std.specs.Prelude.{◌≢◌, ◌<◌, ◌≤◌, ◌+◌, ◌^◌, ℕ, Bool, true, false, List, [], ◌∷◌, length, Result, Ok, Err}
+use Rattle.cert_text.specs.declared.event.Event.{Event}
+use Rattle.cert_text.specs.declared.event.Event.TheVariants as event
+use Rattle.cert_text.specs.declared.fault.FeedFault.{FeedFault}
 use Rattle.cert_text.specs.declared.symbol.Symbol.{Symbol}
 use Rattle.cert_text.specs.declared.symbol.Symbol.TheVariants as symbol
 use Rattle.cert_text.specs.Sources.{Held}
@@ -14,10 +17,16 @@ depth_of (s ∷ ss) = 0
 -- fewer bytes than a file may have were read, and each line judged took one at least
 pub record IsWithin (held : Held) (lines : ℕ) : Type 0 where
   pub count : held.count < 2 ^ 63
-  pub lines : lines + length held.left ≤ held.count
+  pub taken : lines + length held.left ≤ held.count
 
 -- pieces are to come, and less than a piece of the file isn't judged
 pub record MayGoOn (to_come : List Symbol) (held : Held) (lines : ℕ) : Type 0 where
   pub some : to_come ≢ []
   pub within : IsWithin held lines
   pub few : length held.left < 65536
+
+-- no further event comes after this answer
+abbrev pub is_last : Result Event FeedFault → Bool
+is_last (Ok event.Finish) = true
+is_last (Ok e) = false
+is_last (Err fault) = true

@@ -1,5 +1,5 @@
 -- What a feed of a certificate's text was given, and what it answers.
-use Rattle.std.specs.Prelude.{◌≡◌, ⊤, ℕ, Bool, true, false, List, [], ◌∷◌, ◌++◌, length, Option, None, Some, Result, Ok, Err}
+use Rattle.std.specs.Prelude.{◌≡◌, ⊤, ℕ, List, [], ◌∷◌, ◌++◌, length, Option, None, Some, Result, Ok, Err}
 use Rattle.std.specs.List.{AllByRecursion}
 use Rattle.pack_base.specs.Outside.{Files}
 use Rattle.cert_text.specs.declared.event.Event.{Event}
@@ -28,12 +28,12 @@ pub record BeginsEvents (events : List Event) : Type 0 where
   pub marked : CertOf Marked
   pub rest : List Event
   pub in_range : InRange marked
-  pub events : cert_events marked ≡ events ++ rest
+  pub begins : cert_events marked ≡ events ++ rest
 
 -- the bytes are a text of the certificate whose events, with its marks, these are
 pub record IsTextOf (bytes : List ℕ) (events : List Event) : Type 0 where
   pub marked : CertOf Marked
-  pub events : cert_events marked ≡ events
+  pub said : cert_events marked ≡ events
   pub text : CertText bytes (unmark_cert marked)
   pub found : cert_of_text bytes ≡ Ok (unmark_cert marked)
 
@@ -65,9 +65,3 @@ pub record Feeds {F : Type 0} (files : F → Files) (read_faults write_faults gi
 -- a feed was given some bytes and events
 abbrev pub HasGiven : CertFeed → Type 0
 HasGiven feed = (bytes : List ℕ) × (events : List Event) × Given feed bytes events
-
--- no further event comes after this answer
-abbrev pub is_last : Result Event FeedFault → Bool
-is_last (Ok event.Finish) = true
-is_last (Ok e) = false
-is_last (Err fault) = true

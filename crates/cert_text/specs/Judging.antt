@@ -23,7 +23,7 @@ pub record Judges (old now : CertFeed) (more : List ℕ) (lines : List Line) : T
   pub in_range : AllByRecursion LineInRange lines
   pub stands : run old.position lines ≡ Some now.position
   pub count : now.source.count ≡ old.source.count + length more
-  pub lines : now.lines ≡ old.lines + length lines
+  pub number : now.lines ≡ old.lines + length lines
   pub within : IsWithin now.source now.lines
 
 -- a feed judged one line, and heard it
@@ -67,7 +67,7 @@ pub record RefusesText (old : CertFeed) (text : List ℕ) (why : CertRefusal) : 
   pub lines : List Line
   pub to_come : List Symbol
   pub rest : List ℕ
-  pub text : text ≡ text_of lines ++ rest
+  pub is : text ≡ text_of lines ++ rest
   pub in_range : AllByRecursion LineInRange lines
   pub stands : run old.position lines ≡ Some to_come
   pub none : collect silent lines ≡ []

@@ -1,6 +1,6 @@
 //! Certificates in one pass: events, one after the other, of a file that is read piece by piece.
 ghost use Rattle.std.specs.Prelude.{◌≡◌, ◌≤◌, ◌<◌, [], false, true, length, IsErrOf};
-ghost use Rattle.cert_text.specs.Depths.{MayGoOn, depth_of};
+ghost use Rattle.cert_text.specs.Depths.{MayGoOn, depth_of, is_last};
 
 use crate::event::Event;
 use crate::fault::FeedFault;
@@ -25,6 +25,13 @@ pub struct CertFeed {
     ghost may_go_on: { ended ≡ false → MayGoOn position source lines },
 }
 
+// Whether no event comes after this answer.
+fn ends(answer: &Result<Event, FeedFault>) -> bool
+    ensures { result ≡ is_last answer.now }
+{
+    matches!(answer, Ok(Event::Finish) | Err(_))
+}
+
 impl CertFeed {
     ghost use Rattle.std.specs.Prelude.{◌+◌, ℕ, List, Option, None, Some, Result, Ok, Err, IfOk, ◌++◌};
     ghost use Rattle.pack_base.specs.Outside.{Later, SameFaults};
@@ -32,7 +39,7 @@ impl CertFeed {
     ghost use Rattle.cert_text.specs.Depths.{IsWithin};
     ghost use Rattle.cert_text.specs.Heard.{heard_by};
     ghost use Rattle.cert_text.specs.Sources.{Reads, broke, cause, text_refusal};
-    ghost use Rattle.cert_text.specs.Given.{Feeds, Given, HasGiven, is_last};
+    ghost use Rattle.cert_text.specs.Given.{Feeds, Given, HasGiven, IsAnswerOf};
     ghost use Rattle.cert_text.specs.Judging.{Finishes, OneEvent, OneLine, RefusesBad};
 
     /// A feed before the first byte of a file.
@@ -131,6 +138,25 @@ impl CertFeed {
         }
     }
 
+    // The next event, and at the last one whether the file ends.
+    fn go_on<F: Folder>(&mut self, folder: &mut F, name: &str) -> Result<Event, FeedFault>
+        requires goes_on { MayGoOn self.old.position self.old.source self.old.lines }
+        requires closed { self.old.ended ≡ true }
+        requires given { HasGiven self.old }
+        ensures answer { (more : List ℕ)
+            × Reads F.files F.read_faults F.write_faults F.given name.now self.old.source.count folder.old folder.new
+            (broke result) more
+            × ((bytes : List ℕ) (events : List Event) → Given self.old bytes events
+            → IsAnswerOf (F.files folder.old) name.now self.new bytes more events result) }
+        ensures goes_on { is_last result ≡ false → MayGoOn self.new.position self.new.source self.new.lines }
+        ensures closed { self.new.ended ≡ true }
+    {
+        match self.hear_event(folder, name)? {
+            Event::Finish => self.finish(folder, name),
+            event => Ok(event),
+        }
+    }
+
     /// The next event of the file of this name. It reads on by pieces of at most 65536 bytes. After `Finish` and
     /// after each fault the feed has ended.
     ///
@@ -158,14 +184,9 @@ impl CertFeed {
             → SameFaults F.read_faults F.write_faults folder.old folder.new }
     {
         self.ended = true;
-        let event = self.hear_event(folder, name)?;
-        match event {
-            Event::Finish => self.finish(folder, name),
-            event => {
-                self.ended = false;
-                Ok(event)
-            }
-        }
+        let answer = self.go_on(folder, name);
+        self.ended = ends(&answer);
+        answer
     }
 
     /// True exactly after `Finish` and after a fault.

@@ -206,6 +206,21 @@ fn depth_at(symbol: Symbol) -> u32
     }
 }
 
+// How many inner nodes lack subtrees where these pieces are to come.
+fn depth_in(runs: &[Run]) -> u32
+    ensures { result ≡ depth_of (pieces runs.now) }
+{
+    let mut place = runs.len();
+    while place > 0 {
+        place -= 1;
+        let run = runs[place];
+        if run.count > 0 {
+            return depth_at(run.symbol);
+        }
+    }
+    0
+}
+
 fn no_pieces(runs: &[Run]) -> bool
     ensures { result ≡ list_all (λ r. r.count == 0) runs.now }
 {
@@ -243,15 +258,7 @@ impl Position {
     pub fn depth(&self) -> usize
         ensures { result ≡ depth_of self.now }
     {
-        let mut place = self.runs.len();
-        while place > 0 {
-            place -= 1;
-            let run = self.runs[place];
-            if run.count > 0 {
-                return depth_at(run.symbol) as usize;
-            }
-        }
-        0
+        depth_in(&self.runs) as usize
     }
 
     /// Whether nothing is to come any more.

