@@ -1,5 +1,5 @@
 -- The laws of a feed, line by line and event by event.
-use Rattle.std.proofs.Common.{◌≡◌, ◌≢◌, ◌<◌, ◌≤◌, ◌+◌, ◌^◌, ℕ, List, [], ◌∷◌, ◌++◌, length, Option, Some, None, Ok, Err, true, false, refl, sym, ap, subst, ◌∙◌, append_assoc, append-nil, length-append, arith}
+use Rattle.std.proofs.Common.{◌≡◌, ◌≢◌, ◌<◌, ◌≤◌, ◌+◌, ◌-◌, ◌^◌, ℕ, List, [], ◌∷◌, ◌++◌, length, Option, Some, None, Ok, Err, true, false, refl, sym, ap, subst, ◌∙◌, append_assoc, append-nil, length-append, arith}
 use Rattle.std.specs.Prelude.{Result, IsSome}
 use Rattle.std.specs.List.{AllByRecursion}
 use Rattle.std.specs.Option.{option_and_then}
@@ -18,10 +18,10 @@ use Rattle.cert_text.specs.Words.{line_of}
 use Rattle.cert_text.specs.Grammar.{after, run, start}
 use Rattle.cert_text.specs.Reading.{cert_of_text, refusal}
 use Rattle.cert_text.specs.Heard.{Heard, collect, hear, onto_event, silent}
-use Rattle.cert_text.specs.Depths.{IsWithin, MayGoOn, depth_of}
+use Rattle.cert_text.specs.Depths.{IsWithin, MayGoOn, depth_of, is_last}
 use Rattle.cert_text.specs.Sources.{Ends, Held, Reads, TakesLine, broke, no_end, text_refusal}
 use Rattle.cert_text.specs.Given.{BeginsEvents, Given, IsAnswerOf, IsNext, IsRefused, IsTextOf}
-use Rattle.cert_text.specs.Judging.{Finishes, HearsEvent, HearsLine, IsWhole, Judges, RefusesLine, RefusesLines, RefusesRest, RefusesText}
+use Rattle.cert_text.specs.Judging.{Finishes, HearsEvent, HearsLine, IsWhole, Judges, RefusesBad, RefusesLine, RefusesLines, RefusesRest, RefusesText}
 use Rattle.cert_text.proofs.Cuts.{all_append}
 use Rattle.cert_text.proofs.GivenLaws.{bad_next, cut_next, events_begin, exact_lines, heard_ends, heard_more, heard_nothing, last_event, lines_go_on, lines_push, not_ended, refused_after, rest_bad, run_nothing, run_one, run_then, whole_text}
 use Rattle.cert_text.proofs.Shapes.{Shaped, end_last, run_shaped, shaped_depth, start_shaped}
@@ -69,6 +69,20 @@ line_bad files name old left more further line why free text none is ends =
       λ some. bad_next (old.lines + 1) old.position (old.source.left ++ (more ++ further)) line (left ++ further) free whole none ∙ ap (λ (w : CertRefusal). Some w) (sym is),
       ends,
     )
+
+-- a line that can't stand, or what went wrong after it
+pub line_refused : (files there : Files) (name : List ℕ) (old : CertFeed) (at : ℕ) (left more further line : List ℕ) (why : Option CertRefusal) → no_end line ≡ true → old.source.left ++ more ≡ line ++ 10 ∷ left
+    → option_and_then (λ l. after old.position l) (line_of line) ≡ None → (Ends there name at further → Ends files name old.source.count (more ++ further))
+    → RefusesBad there name at old.lines further why → RefusesLine files name old (more ++ further) why
+line_refused files there name old at left more further line None free text none ends bad = tt
+line_refused files there name old at left more further line (Some why) free text none ends bad = line_bad files name old left more further line why free text none bad.0 (ends bad.1)
+
+-- a line takes a byte at least
+pub line_smaller : (a b : CertFeed) (n : List ℕ) (l : Line) → Judges a b n (l ∷ []) → 2 ^ 63 + length b.source.left - b.source.count < 2 ^ 63 + length a.source.left - a.source.count
+line_smaller a b n l j =
+    let size : length a.source.left + length n ≡ length (text_of (l ∷ [])) + length b.source.left = sym (length-append a.source.left n) ∙ ap length j.text ∙ length-append (text_of (l ∷ [])) b.source.left in
+    let one : length (text_of (l ∷ [])) ≡ length (line_text l) + 1 = length-append (ended (line_text l)) [] ∙ (let k : length (line_text l ++ 10 ∷ []) ≡ length (line_text l) + 1 = length-append (line_text l) (10 ∷ []) in omega arith) in
+    omega (arith, size, one, j.count, j.within.count)
 
 -- ---- lines
 
@@ -300,6 +314,11 @@ finish_answer {files = files} {name = name} {a = a} {b = b} {m = m} old mid now 
         → IsRefused (files a) name (length bytes) (m ++ n) (bytes ++ (m ++ n)) why
     by None refused ends = tt
     by (Some why) refused ends = (ap cert_of_text (sym (append_assoc bytes m n)) ∙ refused.0, ends n refused.1)
+
+-- after looking for the end the feed has ended
+pub finish_last : (files : Files) (name : List ℕ) (old now : CertFeed) (more : List ℕ) (result : Result Event FeedFault) → Finishes files name old now more result → is_last result ≡ true
+finish_last files name old now more (Ok e) f = ap (λ (x : Event). is_last (Ok x)) f.0
+finish_last files name old now more (Err f) g = refl
 
 -- a failed read is told by the answer
 pub failed : (result : Result Event FeedFault) → broke result ≡ Some fault.ReadFault → result ≡ Err fault.ReadFault

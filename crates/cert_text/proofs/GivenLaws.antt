@@ -143,19 +143,19 @@ abbrev Longer : List Line → List Line → Type 0
 Longer front all = (z : Line) × (zs : List Line) × (all ≡ front ++ z ∷ zs)
 
 -- of two fronts of one list one goes on, or they are the same
-fronts : (as bs xs ys : List Line) → as ++ xs ≡ bs ++ ys → (as ≡ bs) ⊎ (Longer as bs ⊎ Longer bs as)
+fronts : (us vs xs ys : List Line) → us ++ xs ≡ vs ++ ys → (us ≡ vs) ⊎ (Longer us vs ⊎ Longer vs us)
 fronts [] [] xs ys e = inl refl
-fronts [] (b ∷ bs) xs ys e = inr (inl (b, bs, refl))
-fronts (a ∷ as) [] xs ys e = inr (inr (a, as, refl))
-fronts (a ∷ as) (b ∷ bs) xs ys e =
-    let h : a ≡ b = cc in
-    let t : as ++ xs ≡ bs ++ ys = cc in
-    by h (fronts as bs xs ys t)
+fronts [] (v ∷ vs) xs ys e = inr (inl (v, vs, refl))
+fronts (u ∷ us) [] xs ys e = inr (inr (u, us, refl))
+fronts (u ∷ us) (v ∷ vs) xs ys e =
+    let h : u ≡ v = cc in
+    let t : us ++ xs ≡ vs ++ ys = cc in
+    by h (fronts us vs xs ys t)
   where
-    by : a ≡ b → (as ≡ bs) ⊎ (Longer as bs ⊎ Longer bs as) → (a ∷ as ≡ b ∷ bs) ⊎ (Longer (a ∷ as) (b ∷ bs) ⊎ Longer (b ∷ bs) (a ∷ as))
+    by : u ≡ v → (us ≡ vs) ⊎ (Longer us vs ⊎ Longer vs us) → (u ∷ us ≡ v ∷ vs) ⊎ (Longer (u ∷ us) (v ∷ vs) ⊎ Longer (v ∷ vs) (u ∷ us))
     by h (inl s) = inl (cc (h, s))
-    by h (inr (inl l)) = inr (inl (l.0, l.1, ap (λ (x : Line). x ∷ bs) (sym h) ∙ ap (λ (x : List Line). a ∷ x) l.2))
-    by h (inr (inr l)) = inr (inr (l.0, l.1, ap (λ (x : Line). x ∷ as) h ∙ ap (λ (x : List Line). b ∷ x) l.2))
+    by h (inr (inl l)) = inr (inl (l.0, l.1, ap (λ (x : Line). x ∷ vs) (sym h) ∙ ap (λ (x : List Line). u ∷ x) l.2))
+    by h (inr (inr l)) = inr (inr (l.0, l.1, ap (λ (x : Line). x ∷ us) h ∙ ap (λ (x : List Line). v ∷ x) l.2))
 
 -- a front of a list with one more is a front of the list
 front_of_push : (xs ys : List Line) (l z : Line) (zs : List Line) → xs ++ l ∷ [] ≡ ys ++ z ∷ zs → (w : List Line) × (xs ≡ ys ++ w)

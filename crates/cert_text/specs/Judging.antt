@@ -44,9 +44,9 @@ RefusesLine files name old more (Some why) =
     RefusedFrom (old.lines + 1) old.position (old.source.left ++ more) why × Ends files name old.source.count more
 
 -- a line that can't stand was passed over with all that follows it
-abbrev pub RefusesBad : Files → List ℕ → CertFeed → List ℕ → Option CertRefusal → Type 0
-RefusesBad files name old more None = ⊤
-RefusesBad files name old more (Some why) = (why ≡ bad_line (old.lines + 1)) × Ends files name old.source.count more
+abbrev pub RefusesBad : Files → List ℕ → ℕ → ℕ → List ℕ → Option CertRefusal → Type 0
+RefusesBad files name at lines more None = ⊤
+RefusesBad files name at lines more (Some why) = (why ≡ bad_line (lines + 1)) × Ends files name at more
 
 -- what judging one line answers
 abbrev pub OneLine : Files → List ℕ → CertFeed → CertFeed → List ℕ → Heard → Result (Hearing × Option Event) FeedFault → Type 0

@@ -67,7 +67,7 @@ impl CertFeed {
         ensures bad { (more : List ℕ)
             × Reads F.files F.read_faults F.write_faults F.given name.now self.old.source.count folder.old folder.new
             (cause result) more
-            × RefusesBad (F.files folder.old) name.now self.old more (text_refusal result) }
+            × RefusesBad (F.files folder.old) name.now self.old.source.count self.old.lines more (text_refusal result) }
         ensures closed { self.new.ended ≡ true }
     {
         match self.source.drain(folder, name) {
