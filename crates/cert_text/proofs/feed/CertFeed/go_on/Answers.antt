@@ -43,7 +43,7 @@ pub returns-in_default-clause-goes_on : goal.returns-in_default-clause-goes_on
 returns-in_default-clause-goes_on g c =
     let x = c.in_ok-event.ensures.event in
     let r = c.requires.given in
-    λ open. record {
+    λ last. record {
       some = given_goes_on c.hear_event.new.self (r.0 ++ x.0) r.1 c.in_ok-event.event (given_more c.args.self.now c.hear_event.new.self r.0 x.0 r.1 c.in_ok-event.event r.2 x.2) c.in_default.not-Finish;
       within = x.2.judges.within;
       few = x.2.few;
