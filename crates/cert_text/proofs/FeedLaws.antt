@@ -18,7 +18,7 @@ use Rattle.cert_text.specs.Words.{line_of}
 use Rattle.cert_text.specs.Grammar.{after, run, start}
 use Rattle.cert_text.specs.Reading.{cert_of_text, refusal}
 use Rattle.cert_text.specs.Heard.{Heard, collect, hear, onto_event, silent}
-use Rattle.cert_text.specs.Depths.{IsWithin, MayGoOn, depth_of, is_last}
+use Rattle.cert_text.specs.Depths.{IsWithin, MayGoOn, bytes_ahead, depth_of, is_last}
 use Rattle.cert_text.specs.Sources.{Ends, Held, Reads, TakesLine, broke, no_end, text_refusal}
 use Rattle.cert_text.specs.Given.{BeginsEvents, Given, IsAnswerOf, IsNext, IsRefused, IsTextOf}
 use Rattle.cert_text.specs.Judging.{Finishes, HearsEvent, HearsLine, IsWhole, Judges, RefusesBad, RefusesLine, RefusesLines, RefusesRest, RefusesText}
@@ -83,6 +83,15 @@ line_smaller a b n l j =
     let size : length a.source.left + length n ≡ length (text_of (l ∷ [])) + length b.source.left = sym (length-append a.source.left n) ∙ ap length j.text ∙ length-append (text_of (l ∷ [])) b.source.left in
     let one : length (text_of (l ∷ [])) ≡ length (line_text l) + 1 = length-append (ended (line_text l)) [] ∙ (let k : length (line_text l ++ 10 ∷ []) ≡ length (line_text l) + 1 = length-append (line_text l) (10 ∷ []) in omega arith) in
     omega (arith, size, one, j.count, j.within.count)
+
+-- lines, of which there is one, take a byte at least
+pub lines_smaller : (a b : CertFeed) (n : List ℕ) (before : List Line) (last : Line) → Judges a b n (before ++ last ∷ []) → bytes_ahead b.source < bytes_ahead a.source
+lines_smaller a b n before last j =
+    let all : length a.source.left + length n ≡ length (text_of (before ++ last ∷ [])) + length b.source.left =
+    sym (length-append a.source.left n) ∙ ap length j.text ∙ length-append (text_of (before ++ last ∷ [])) b.source.left in
+    let parts : length (text_of (before ++ last ∷ [])) ≡ length (text_of before) + length (text_of (last ∷ [])) = ap length (text_append before (last ∷ [])) ∙ length-append (text_of before) (text_of (last ∷ [])) in
+    let one : length (text_of (last ∷ [])) ≡ length (line_text last) + 1 = length-append (ended (line_text last)) [] ∙ (let k : length (line_text last ++ 10 ∷ []) ≡ length (line_text last) + 1 = length-append (line_text last) (10 ∷ []) in omega arith) in
+    omega (arith, all, parts, one, j.count, j.within.count)
 
 -- ---- lines
 

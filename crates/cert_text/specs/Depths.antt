@@ -1,5 +1,5 @@
 -- How deep a feed stands, and when it may go on.
-use Rattle.std.specs.Prelude.{◌≢◌, ◌<◌, ◌≤◌, ◌+◌, ◌^◌, ℕ, Bool, true, false, List, [], ◌∷◌, length, Result, Ok, Err}
+use Rattle.std.specs.Prelude.{◌≢◌, ◌<◌, ◌≤◌, ◌+◌, ◌-◌, ◌^◌, ℕ, Bool, true, false, List, [], ◌∷◌, length, Result, Ok, Err}
 use Rattle.cert_text.specs.declared.event.Event.{Event}
 use Rattle.cert_text.specs.declared.event.Event.TheVariants as event
 use Rattle.cert_text.specs.declared.fault.FeedFault.{FeedFault}
@@ -24,6 +24,10 @@ pub record MayGoOn (to_come : List Symbol) (held : Held) (lines : ℕ) : Type 0 
   pub some : to_come ≢ []
   pub within : IsWithin held lines
   pub few : length held.left < 65536
+
+-- how many bytes may come after those judged
+abbrev pub bytes_ahead : Held → ℕ
+bytes_ahead held = 2 ^ 63 + length held.left - held.count
 
 -- no further event comes after this answer
 abbrev pub is_last : Result Event FeedFault → Bool

@@ -1,6 +1,6 @@
 //! Certificates in one pass: events, one after the other, of a file that is read piece by piece.
 ghost use Rattle.std.specs.Prelude.{◌≡◌, ◌≤◌, ◌<◌, [], false, true, length, IsErrOf};
-ghost use Rattle.cert_text.specs.Depths.{MayGoOn, depth_of, is_last};
+ghost use Rattle.cert_text.specs.Depths.{MayGoOn, bytes_ahead, depth_of, is_last};
 
 use crate::event::Event;
 use crate::fault::FeedFault;
@@ -149,6 +149,7 @@ impl CertFeed {
             × ((bytes : List ℕ) (events : List Event) → Given self.old bytes events
             → IsAnswerOf (F.files folder.old) name.now self.new bytes more events result) }
         ensures goes_on { is_last result ≡ false → MayGoOn self.new.position self.new.source self.new.lines }
+        ensures shrinks { is_last result ≡ false → bytes_ahead self.new.source < bytes_ahead self.old.source }
         ensures closed { self.new.ended ≡ true }
     {
         match self.hear_event(folder, name)? {
@@ -175,6 +176,8 @@ impl CertFeed {
             → Feeds F.files F.read_faults F.write_faults F.given name.now folder.old folder.new self.new bytes events
             result }
         ensures ended { self.new.ended ≡ is_last result }
+        // A loop over events ends: each but the last leaves fewer bytes that may come.
+        ensures shrinks { is_last result ≡ false → bytes_ahead self.new.source < bytes_ahead self.old.source }
 
         ensures files { F.files folder.new ≡ F.files folder.old }
         ensures later { Later F.read_faults F.write_faults F.given folder.old folder.new }

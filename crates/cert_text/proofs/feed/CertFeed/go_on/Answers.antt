@@ -4,7 +4,7 @@ use Rattle.cert_text.specs.declared.event.Event.TheVariants as event
 use Rattle.cert_text.specs.Depths.{is_last}
 use Rattle.cert_text.specs.Judging.{HearsEvent}
 use Rattle.cert_text.specs.Sources.{text_refusal}
-use Rattle.cert_text.proofs.FeedLaws.{finish_answer, finish_last, given_goes_on, given_more, next_event, next_refused}
+use Rattle.cert_text.proofs.FeedLaws.{finish_answer, finish_last, given_goes_on, given_more, lines_smaller, next_event, next_refused}
 use Rattle.cert_text.proofs.SourceLaws.{reads_then}
 use Rattle.cert_text.proofs.feed.CertFeed.go_on.Goals as goal
 
@@ -48,3 +48,13 @@ returns-in_default-clause-goes_on g c =
       within = x.2.judges.within;
       few = x.2.few;
     }
+
+pub returns-in_default-clause-shrinks : goal.returns-in_default-clause-shrinks
+returns-in_default-clause-shrinks g c =
+    let h = c.in_ok-event.ensures.event.2 in
+    λ last. lines_smaller c.args.self.now c.hear_event.new.self c.in_ok-event.ensures.event.0 h.before h.last h.judges
+
+pub returns-in-Finish-clause-shrinks : goal.returns-in-Finish-clause-shrinks
+returns-in-Finish-clause-shrinks g c =
+    let y = c.finish.ensures.finish in
+    λ last. absurd (let h : true ≡ false = sym (finish_last (g.F.Folder.files c.hear_event.new.folder) c.args.name.now c.hear_event.new.self c.finish.new.self y.0 c.finish.result y.2) ∙ last in cc)
