@@ -64,8 +64,7 @@ pub line_bad : (files : Files) (name : List ℕ) (old : CertFeed) (left more fur
     → option_and_then (λ l. after old.position l) (line_of line) ≡ None → why ≡ bad_line (old.lines + 1) → Ends files name old.source.count (more ++ further) → RefusesLine files name old (more ++ further) (Some why)
 line_bad files name old left more further line why free text none is ends =
     let whole : old.source.left ++ (more ++ further) ≡ line ++ 10 ∷ (left ++ further) =
-    sym (append_assoc old.source.left more further) ∙ ap (λ (x : List ℕ). x ++ further) text ∙ append_assoc line (10 ∷ left) further in
-    (
+    sym (append_assoc old.source.left more further) ∙ ap (λ (x : List ℕ). x ++ further) text ∙ append_assoc line (10 ∷ left) further in (
       λ some. bad_next (old.lines + 1) old.position (old.source.left ++ (more ++ further)) line (left ++ further) free whole none ∙ ap (λ (w : CertRefusal). Some w) (sym is),
       ends,
     )
@@ -239,8 +238,7 @@ pub next_refused : (files : Files) (name : List ℕ) (old : CertFeed) (bytes mor
 next_refused files name old bytes more es None g some r = tt
 next_refused files name old bytes more es (Some why) g some r =
     let t = r.0 in
-    let ls : List Line = lines_of es ++ t.lines in
-    (
+    let ls : List Line = lines_of es ++ t.lines in (
       refused_after ls t.to_come t.rest (bytes ++ more) (old.lines + length t.lines + 1) why (all_append LineInRange (lines_of es) t.lines g.in_range t.in_range)
           (run_then (lines_of es) t.lines start old.position t.to_come g.stands t.stands)
           (ap (λ (x : List ℕ). x ++ more) g.judged ∙ append_assoc (text_of (lines_of es)) old.source.left more ∙ ap (λ (x : List ℕ). text_of (lines_of es) ++ x) t.is
@@ -316,7 +314,7 @@ finish_answer {files = files} {name = name} {a = a} {b = b} {m = m} old mid now 
     by (text_refusal fault)
     (finish_refused (files b) name mid (bytes ++ m) n (es ++ event.Finish ∷ []) (text_refusal fault) (given_more old mid bytes m es event.Finish given h) (given_ended old mid bytes m es given h) f)
     (λ (z : List ℕ) (ends : Ends (files b) name (length (bytes ++ m)) z).
-        subst (λ (k : ℕ). Ends (files a) name k (m ++ z)) given.count (ends_then (length (bytes ++ m)) z x ends (length-append bytes m ∙ ap (λ (k : ℕ). k + length m) (sym given.count))))
+    subst (λ (k : ℕ). Ends (files a) name k (m ++ z)) given.count (ends_then (length (bytes ++ m)) z x ends (length-append bytes m ∙ ap (λ (k : ℕ). k + length m) (sym given.count))))
   where
     by : (why : Option CertRefusal) → IsRefused (files b) name (length (bytes ++ m)) n ((bytes ++ m) ++ n) why
         → ((z : List ℕ) → Ends (files b) name (length (bytes ++ m)) z → Ends (files a) name (length bytes) (m ++ z))

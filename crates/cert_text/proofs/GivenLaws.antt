@@ -232,11 +232,10 @@ cert_ends : (c : CertOf Marked) → (front : List Event) × (cert_events c ≡ f
 cert_ends c =
     let a : List Event = map event.FrameOf c.frames in
     let b : List Event = flat_map lemma_events c.lemmas in
-    let m : List Event = main_events c.main_tree in
-    (
+    let m : List Event = main_events c.main_tree in (
       event.Head c.kind ∷ (a ++ (b ++ m)),
       ap (λ (x : List Event). event.Head c.kind ∷ x)
-      (ap (λ (x : List Event). a ++ x) (sym (append_assoc b m (event.Finish ∷ []))) ∙ sym (append_assoc a (b ++ m) (event.Finish ∷ []))),
+          (ap (λ (x : List Event). a ++ x) (sym (append_assoc b m (event.Finish ∷ []))) ∙ sym (append_assoc a (b ++ m) (event.Finish ∷ []))),
     )
 
 -- events whose lines lead to the end are those of a certificate

@@ -34,8 +34,7 @@ not_failed e = let h : Some fault.TooLarge ≡ Some fault.ReadFault = e in cc
 pub front_more : (bytes buffer file : List ℕ) (n : ℕ) → Begins bytes file → ReadsAt file (length bytes) n buffer → Begins (bytes ++ take n buffer) file
 front_more bytes buffer file n front reads =
     let rest : drop (length bytes) file ≡ front.0 = ap (drop (length bytes)) (sym front.1) ∙ drop-append_seam bytes front.0 in
-    let read : take n buffer ≡ take n front.0 = reads.bytes ∙ ap (take n) rest in
-    (
+    let read : take n buffer ≡ take n front.0 = reads.bytes ∙ ap (take n) rest in (
       drop n front.0,
       append_assoc bytes (take n buffer) (drop n front.0) ∙ ap (λ (x : List ℕ). bytes ++ (x ++ drop n front.0)) read ∙ ap (λ (x : List ℕ). bytes ++ x) (take-append-drop n front.0) ∙ front.1,
     )
@@ -93,8 +92,7 @@ reads_given files r w g name at n buffer old now why fine large within same late
 pub ends_given : (files : Files) (name : List ℕ) (at n : ℕ) (buffer : List ℕ) → (IsSome files → ReadsAt (bytes_at files name) at n buffer) → n ≡ 0 → 0 < length buffer
     → (take n buffer ≡ []) × Ends files name at (take n buffer)
 ends_given files name at n buffer reads none room =
-    let empty : take n buffer ≡ [] = ap (λ (k : ℕ). take k buffer) none in
-    (
+    let empty : take n buffer ≡ [] = ap (λ (k : ℕ). take k buffer) none in (
       empty,
       λ told bytes size begins.
           let past : length (bytes_at files name) ≤ at = read_end (bytes_at files name) at n buffer (reads told) none room in
@@ -194,8 +192,7 @@ cut_view piece front after from upto low high e =
     let place : upto - length after ≡ from + (length front + 1) = omega arith in
     let there : drop (upto - length after) piece ≡ after ++ tail =
     ap (λ (k : ℕ). drop k piece) place ∙ sym (drop-drop (length front + 1) from piece) ∙ ap (drop (length front + 1)) is ∙ drop-append-add front (10 ∷ (after ++ tail)) 1 in
-    let room : upto - (upto - length after) ≡ length after = omega arith in
-    (
+    let room : upto - (upto - length after) ≡ length after = omega arith in (
       ap (λ (k : ℕ). take k (drop (upto - length after) piece)) room ∙ ap (take (length after)) there ∙ take-append_seam after tail,
       omega arith,
     )

@@ -109,8 +109,7 @@ fn deepest(rt: HostRuntime) -> Result<(), Fail> {
 }
 
 /// The certificate of two signals in one frame.
-const TWO_SIGNALS: &[u8] =
-    b"canpack certificate 1\nkind best\nframe 7400 0\nmain\ni 1\nb\nend\n";
+const TWO_SIGNALS: &[u8] = b"canpack certificate 1\nkind best\nframe 7400 0\nmain\ni 1\nb\nend\n";
 
 // Whether `TWO_SIGNALS` has this event at this place.
 fn is_there(place: usize, event: &Event) -> bool {
@@ -169,6 +168,7 @@ fn in_one_pass(rt: HostRuntime) -> Result<(), Fail> {
 }
 
 /// A folder that notes the greatest place that a read asked for.
+#[derive(Drop)]
 struct Noting {
     inner: SteadyFolder,
     greatest: u64,

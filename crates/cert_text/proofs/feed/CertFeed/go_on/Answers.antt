@@ -12,8 +12,7 @@ pub returns-in_err-event-clause-answer : goal.returns-in_err-event-clause-answer
 returns-in_err-event-clause-answer g c =
     let x = c.in_err-event.ensures.event in
     let p = err_from_is_err_and c.from_residual.result c.from_residual.ensures.1 in
-    rw (p.1, p.2)
-    (
+    rw (p.1, p.2) (
       x.0,
       x.1,
       λ bytes es given. next_refused (g.F.Folder.files c.args.folder.now) c.args.name.now c.args.self.now bytes x.0 es (text_refusal c.in_err-event.field-0.0) given c.requires.goes_on.some x.2,
@@ -23,8 +22,7 @@ pub returns-in-Finish-clause-answer : goal.returns-in-Finish-clause-answer
 returns-in-Finish-clause-answer g c =
     let x = c.in_ok-event.ensures.event in
     let y = c.finish.ensures.finish in
-    let h : HearsEvent c.args.self.now c.hear_event.new.self x.0 event.Finish = rw c.in-Finish.is at x.2 in
-    (
+    let h : HearsEvent c.args.self.now c.hear_event.new.self x.0 event.Finish = rw c.in-Finish.is at x.2 in (
       x.0 ++ y.0,
       reads_then x.1 y.1 h.judges.count,
       λ bytes es given. finish_answer c.args.self.now c.hear_event.new.self c.finish.new.self y.0 bytes es c.finish.result x.1 h y.2 given,
@@ -32,8 +30,7 @@ returns-in-Finish-clause-answer g c =
 
 pub returns-in_default-clause-answer : goal.returns-in_default-clause-answer
 returns-in_default-clause-answer g c =
-    let x = c.in_ok-event.ensures.event in
-    (
+    let x = c.in_ok-event.ensures.event in (
       x.0,
       x.1,
       λ bytes es given. next_event (g.F.Folder.files c.args.folder.now) c.args.name.now c.args.self.now c.hear_event.new.self bytes x.0 es c.in_ok-event.event given x.2 c.in_default.not-Finish,

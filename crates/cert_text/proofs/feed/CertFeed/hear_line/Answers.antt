@@ -27,8 +27,7 @@ pub returns-in_default-clause-line : goal.returns-in_default-clause-line
 returns-in_default-clause-line g c =
     let x = c.in_ok-next_line.ensures.reads in
     let t : TakesLine (g.F.Folder.files c.args.folder.now) c.args.name.now c.args.self.now.source c.next_line.new.self x.0 c.next_line.new.line.items true = rw c.if-not-branch.false at x.2 in
-    let y = c.bad_line.ensures.bad in
-    (
+    let y = c.bad_line.ensures.bad in (
       x.0 ++ y.0,
       reads_then x.1 y.1 t.count,
       line_refused (g.F.Folder.files c.args.folder.now) (g.F.Folder.files c.next_line.new.folder) c.args.name.now c.args.self.now c.next_line.new.self.count c.next_line.new.self.left x.0 y.0 c.next_line.new.line.items
@@ -42,8 +41,7 @@ returns-clause-line g c =
     let x = c.in_ok-next_line.ensures.reads in
     let t : TakesLine (g.F.Folder.files c.args.folder.now) c.args.name.now c.args.self.now.source c.next_line.new.self x.0 c.next_line.new.line.items true = rw c.if-not-branch.false at x.2 in
     let small : c.next_line.new.self.count < 2 ^ 63 = let few = x.1.within (no_cause fault.TooLarge) in omega (arith, few, t.count) in
-    let s = rw c.in-Some.is at c.in_ok-line.ensures.stands in
-    (
+    let s = rw c.in-Some.is at c.in_ok-line.ensures.stands in (
       x.0,
       x.1,
       record {

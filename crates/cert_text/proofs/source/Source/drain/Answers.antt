@@ -8,8 +8,7 @@ use Rattle.cert_text.proofs.source.Source.drain.Goals as goal
 
 pub loop-nothing-init : goal.loop-nothing-init
 loop-nothing-init g c =
-    let size : length c.args.self.now.left ≡ c.self.inside.upto - c.self.inside.from = ap (λ v. length v.left) (sym c.self.view_is) ∙ left_size c.self.inside.piece.items c.self.inside.from c.self.inside.upto c.self.invariant.0 c.self.invariant.1 c.self.invariant.2 in
-    (
+    let size : length c.args.self.now.left ≡ c.self.inside.upto - c.self.inside.from = ap (λ v. length v.left) (sym c.self.view_is) ∙ left_size c.self.inside.piece.items c.self.inside.from c.self.inside.upto c.self.invariant.0 c.self.invariant.1 c.self.invariant.2 in (
       drain_none g.F.Folder.files g.F.Folder.read_faults g.F.Folder.write_faults g.F.Folder.given c.args.name.now c.args.self.now c.args.folder.now (nat_eq c.self.inside.from c.self.inside.upto) c.requires
           (λ e. let same : c.self.inside.from ≡ c.self.inside.upto = eqb-true _ _ e in omega (arith, size)) (λ e. let other = eqb-false c.self.inside.from c.self.inside.upto e in omega (arith, size, other, c.self.invariant.0)),
       c.requires,
@@ -25,8 +24,7 @@ pub loop-nothing-preserved : goal.loop-nothing-preserved
 loop-nothing-preserved g c =
     let s = c.loop-nothing.invariant.0 in
     let x = c.in_ok-read_on.ensures.reads in
-    let on : ReadOn (g.F.Folder.files c.loop-nothing.folder) c.args.name.now c.loop-nothing.self c.read_on.new.self x.0 true = rw c.if-branch.true at x.2 in
-    (
+    let on : ReadOn (g.F.Folder.files c.loop-nothing.folder) c.args.name.now c.loop-nothing.self c.read_on.new.self x.0 true = rw c.if-branch.true at x.2 in (
       drain_more c.read_on.new.self c.read_on.new.folder x.0 s x.1 on,
       let small = x.1.within (no_cause fault.TooLarge) in omega (arith, on.count, small),
     )

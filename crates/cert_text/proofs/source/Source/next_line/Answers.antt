@@ -36,8 +36,7 @@ loop-self-preserved g c =
     let s = c.loop-self.invariant.0 in
     let t : TakesHere c.loop-self.self c.take_here.new.self c.loop-self.line.items c.take_here.new.line.items false = rw c.if-not-branch.true at c.in_ok-take_here.ensures in
     let x = c.in_ok-read_on.ensures.reads in
-    let on : ReadOn (g.F.Folder.files c.loop-self.folder) c.args.name.now c.take_here.new.self c.read_on.new.self x.0 true = rw c.if-not-branch-2.false at x.2 in
-    (
+    let on : ReadOn (g.F.Folder.files c.loop-self.folder) c.args.name.now c.take_here.new.self c.read_on.new.self x.0 true = rw c.if-not-branch-2.false at x.2 in (
       line_more c.take_here.new.self c.read_on.new.self c.read_on.new.folder c.take_here.new.line.items x.0 s t x.1 on,
       let small = x.1.within (no_cause fault.TooLarge) in omega (arith, on.count, small),
     )

@@ -16,8 +16,7 @@ returns-in_default-clause-reads g c = (
 pub returns-then-self-ge-TOO_LARGE-clause-reads : goal.returns-then-self-ge-TOO_LARGE-clause-reads
 returns-then-self-ge-TOO_LARGE-clause-reads g c =
     let count : c.self.inside.count ≡ c.args.self.now.count = ap (λ v. v.count) c.self.view_is in
-    let fits : c.in-Ok.read ≤ length c.read_at.new.buf = omega (arith, c.in-Ok.ensures.count) in
-    (
+    let fits : c.in-Ok.read ≤ length c.read_at.new.buf = omega (arith, c.in-Ok.ensures.count) in (
       take c.in-Ok.read c.read_at.new.buf,
       reads_given g.F.Folder.files g.F.Folder.read_faults g.F.Folder.write_faults g.F.Folder.given c.args.name.now c.args.self.now.count c.in-Ok.read c.read_at.new.buf c.args.folder.now c.read_at.new.self
           (Some fault.TooLarge) not_failed (λ e. omega arith) (λ e. absurd (e refl)) c.in-Ok.ensures.files c.in-Ok.ensures.later c.in-Ok.ensures.quiet c.in-Ok.ensures.given
@@ -29,8 +28,7 @@ pub returns-clause-reads : goal.returns-clause-reads
 returns-clause-reads g c =
     let count : c.self.inside.count ≡ c.args.self.now.count = ap (λ v. v.count) c.self.view_is in
     let fits : c.in-Ok.read ≤ length c.read_at.new.buf = omega (arith, c.in-Ok.ensures.count) in
-    let room : 0 < length c.read_at.new.buf = omega arith in
-    (
+    let room : 0 < length c.read_at.new.buf = omega arith in (
       take c.in-Ok.read c.read_at.new.buf,
       reads_given g.F.Folder.files g.F.Folder.read_faults g.F.Folder.write_faults g.F.Folder.given c.args.name.now c.args.self.now.count c.in-Ok.read c.read_at.new.buf c.args.folder.now c.read_at.new.self
           None (no_cause fault.ReadFault) (λ e. absurd (no_cause fault.TooLarge e)) (λ e. omega arith) c.in-Ok.ensures.files c.in-Ok.ensures.later c.in-Ok.ensures.quiet c.in-Ok.ensures.given
