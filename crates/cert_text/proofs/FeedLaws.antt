@@ -1,6 +1,6 @@
 -- The laws of a feed, line by line and event by event.
 use Rattle.std.proofs.Common.{◌≡◌, ◌≢◌, ◌<◌, ◌≤◌, ◌+◌, ◌-◌, ◌^◌, ℕ, List, [], ◌∷◌, ◌++◌, length, Option, Some, None, Ok, Err, true, false, refl, sym, ap, subst, ◌∙◌, append_assoc, append-nil, length-append, arith}
-use Rattle.std.specs.Prelude.{Result, IsSome}
+use Rattle.std.specs.Prelude.{Result}
 use Rattle.std.specs.List.{AllByRecursion}
 use Rattle.std.specs.Option.{option_and_then}
 use Rattle.pack_base.specs.Outside.{Files}
@@ -10,18 +10,17 @@ use Rattle.cert_text.specs.declared.fault.FeedFault.{FeedFault}
 use Rattle.cert_text.specs.declared.fault.FeedFault.TheVariants as fault
 use Rattle.cert_text.specs.declared.feed.CertFeed.{CertFeed}
 use Rattle.cert_text.specs.declared.line.Line.{Line}
-use Rattle.cert_text.specs.declared.line.Line.TheVariants as line
 use Rattle.cert_text.specs.declared.symbol.Symbol.{Symbol}
 use Rattle.cert_text.specs.Lines.{LineInRange, ended, event_lines, line_text, lines_of, text_of}
 use Rattle.cert_text.specs.CertText.{CertRefusal, bad_line, cut, ended_lines, unfinished}
 use Rattle.cert_text.specs.Words.{line_of}
 use Rattle.cert_text.specs.Grammar.{after, run, start}
 use Rattle.cert_text.specs.Reading.{cert_of_text, refusal}
-use Rattle.cert_text.specs.Heard.{Heard, collect, hear, onto_event, silent}
-use Rattle.cert_text.specs.Depths.{IsWithin, MayGoOn, bytes_ahead, depth_of, is_last}
+use Rattle.cert_text.specs.Heard.{Heard, collect, onto_event, silent}
+use Rattle.cert_text.specs.Depths.{IsWithin, bytes_ahead, depth_of, is_last}
 use Rattle.cert_text.specs.Sources.{Ends, Held, Reads, TakesLine, broke, no_end, text_refusal}
 use Rattle.cert_text.specs.Given.{BeginsEvents, Given, IsAnswerOf, IsNext, IsRefused, IsTextOf}
-use Rattle.cert_text.specs.Judging.{Finishes, HearsEvent, HearsLine, IsWhole, Judges, RefusesBad, RefusesLine, RefusesLines, RefusesRest, RefusesText}
+use Rattle.cert_text.specs.Judging.{Finishes, HearsEvent, HearsLine, IsWhole, Judges, RefusesBad, RefusesLine, RefusesLines, RefusesRest}
 use Rattle.cert_text.proofs.Cuts.{all_append}
 use Rattle.cert_text.proofs.GivenLaws.{bad_next, cut_next, events_begin, exact_lines, heard_ends, heard_more, heard_nothing, last_event, lines_go_on, lines_push, not_ended, refused_after, rest_bad, run_nothing, run_one, run_then, whole_text}
 use Rattle.cert_text.proofs.Shapes.{Shaped, end_last, run_shaped, shaped_depth, start_shaped}

@@ -1,6 +1,5 @@
 -- The laws of a feed: lines and the events that they end, and what was given.
-use Rattle.std.proofs.Common.{◌≡◌, ◌≢◌, ◌⊎◌, ◌<◌, ◌+◌, ℕ, zero, suc, List, [], ◌∷◌, ◌++◌, length, map, Option, Some, None, Ok, Err, true, false, inl, inr, refl, sym, ap, subst, ◌∙◌, append_assoc, append-nil, length-append, arith}
-use Rattle.std.specs.Prelude.{Result}
+use Rattle.std.proofs.Common.{◌≡◌, ◌≢◌, ◌⊎◌, ◌<◌, ◌+◌, ℕ, zero, suc, List, [], ◌∷◌, ◌++◌, length, map, Option, Some, None, Err, true, inl, inr, refl, sym, ap, subst, ◌∙◌, append_assoc, append-nil, arith}
 use Rattle.std.specs.List.{AllByRecursion, flat_map}
 use Rattle.std.specs.Option.{option_and_then}
 use Rattle.std.proofs.lemmas.List.{append_cancel_left, same_from_push}
@@ -22,14 +21,13 @@ use Rattle.cert_text.specs.Reading.{at_end, cert_of_text, or_bad, refusal}
 use Rattle.cert_text.specs.Heard.{Heard, collect, hear, onto_event, silent}
 use Rattle.cert_text.specs.Sources.{no_end}
 use Rattle.cert_text.specs.Given.{BeginsEvents, IsTextOf}
-use Rattle.cert_text.specs.Judging.{RefusedFrom}
-use Rattle.cert_text.proofs.Cuts.{all_append, parts_alone, parts_free}
+use Rattle.cert_text.proofs.Cuts.{parts_alone, parts_free}
 use Rattle.cert_text.proofs.Events.{collect_back}
 use Rattle.cert_text.proofs.Fills.{lines_append}
 use Rattle.cert_text.proofs.OfText.{of_text-cert, of_text-refused}
 use Rattle.cert_text.proofs.Read.{line_free, line_of-text}
 use Rattle.cert_text.proofs.Steps.{no_line, no_more, no_step, step}
-use Rattle.cert_text.proofs.Texts.{lines_and_rest, text_append}
+use Rattle.cert_text.proofs.Texts.{lines_and_rest}
 use Rattle.cert_text.proofs.Whole.{cert-run, run-begins, run-cert}
 
 -- ---- lines that lead on

@@ -9,7 +9,7 @@ use Rattle.cert_text.specs.declared.line.Line.TheVariants as line
 use Rattle.cert_text.specs.declared.symbol.Symbol.{Symbol}
 use Rattle.cert_text.specs.declared.symbol.Symbol.TheVariants as symbol
 use Rattle.cert_text.specs.Depths.{depth_of}
-use Rattle.cert_text.specs.Grammar.{after, body, expand, run, start, subtrees}
+use Rattle.cert_text.specs.Grammar.{after, body, run, start}
 
 -- trees lie at most 128 deep, and the pieces that can take the last line are the last ones
 abbrev pub Shaped : List Symbol → Type 0

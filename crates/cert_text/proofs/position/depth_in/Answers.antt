@@ -1,4 +1,4 @@
-use Rattle.std.proofs.Common.{◌≡◌, ◌<◌, ◌≤◌, ◌-◌, ℕ, length, arith}
+use Rattle.std.proofs.Common.{arith}
 use Rattle.cert_text.proofs.Runs.{depth_found, depth_less, depth_none}
 use Rattle.cert_text.proofs.position.depth_in.Goals as goal
 

@@ -1,7 +1,6 @@
-use Rattle.std.proofs.Common.{◌≡◌, ◌≢◌, ◌++◌, List, ℕ, None, Some, Err, Ok, true, false, refl, sym, ap, ◌∙◌}
+use Rattle.std.proofs.Common.{◌≡◌, ◌++◌, true, false, sym, ◌∙◌}
 use Rattle.std.proofs.lemmas.Result.{err_from_is_err_and}
 use Rattle.cert_text.specs.declared.event.Event.TheVariants as event
-use Rattle.cert_text.specs.Depths.{is_last}
 use Rattle.cert_text.specs.Judging.{HearsEvent}
 use Rattle.cert_text.specs.Sources.{text_refusal}
 use Rattle.cert_text.proofs.FeedLaws.{finish_answer, finish_last, given_goes_on, given_more, lines_smaller, next_event, next_refused}

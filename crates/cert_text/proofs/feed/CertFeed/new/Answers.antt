@@ -1,4 +1,4 @@
-use Rattle.std.proofs.Common.{◌≡◌, refl, ap}
+use Rattle.std.proofs.Common.{refl, ap}
 use Rattle.cert_text.proofs.FeedLaws.{given_none}
 use Rattle.cert_text.proofs.feed.CertFeed.new.Goals as goal
 

@@ -1,4 +1,4 @@
-use Rattle.std.proofs.Common.{◌≡◌, ℕ, refl, sym, ap, subst, ◌∙◌}
+use Rattle.std.proofs.Common.{ℕ, refl, subst}
 use Rattle.cert_text.specs.Sources.{Reads, broke}
 use Rattle.cert_text.proofs.FeedLaws.{answer_moved, given_moved}
 use Rattle.cert_text.proofs.feed.CertFeed.next.Goals as goal

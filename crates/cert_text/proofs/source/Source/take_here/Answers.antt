@@ -1,4 +1,4 @@
-use Rattle.std.proofs.Common.{◌≡◌, ◌-◌, ℕ, List, take, drop, refl, sym, ap, ◌∙◌, arith}
+use Rattle.std.proofs.Common.{◌-◌, ℕ, List, take, drop, refl, sym, ap, ◌∙◌}
 use Rattle.cert_text.specs.CertText.{parts}
 use Rattle.cert_text.proofs.SourceLaws.{here_found, here_none}
 use Rattle.cert_text.proofs.source.Source.take_here.Goals as goal
