@@ -43,21 +43,24 @@ IsRefused files name at more longer None = ⊤
 IsRefused files name at more longer (Some why) = (cert_of_text longer ≡ Err why) × Ends files name at more
 
 -- an event is the next one of the text; the last one comes where the file ends with the text of a certificate
-pub record IsNext (files : Files) (name : List ℕ) (now : CertFeed) (bytes more : List ℕ) (events : List Event) (e : Event) : Type 0 where
+pub record IsNext (files : Files) (name : List ℕ) (now : CertFeed) (bytes more : List ℕ)
+    (events : List Event) (e : Event) : Type 0 where
   pub given : Given now (bytes ++ more) (events ++ e ∷ [])
   pub begins : BeginsEvents (events ++ e ∷ [])
   pub ends : e ≡ event.Finish → Ends files name (length bytes) more
   pub text : e ≡ event.Finish → IsTextOf (bytes ++ more) (events ++ e ∷ [])
 
 -- what a feed answers, that was given these bytes and events
-abbrev pub IsAnswerOf : Files → List ℕ → CertFeed → List ℕ → List ℕ → List Event → Result Event FeedFault → Type 0
+abbrev pub IsAnswerOf : Files → List ℕ → CertFeed → List ℕ → List ℕ → List Event → Result Event FeedFault
+    → Type 0
 IsAnswerOf files name now bytes more events (Ok e) = IsNext files name now bytes more events e
 IsAnswerOf files name now bytes more events (Err fault) =
     IsRefused files name (length bytes) more (bytes ++ more) (text_refusal fault)
 
 -- a feed that was given these bytes and events read more, and answered what follows
-pub record Feeds {F : Type 0} (files : F → Files) (read_faults write_faults given : F → List ℕ → ℕ) (name : List ℕ)
-    (old now : F) (feed : CertFeed) (bytes : List ℕ) (events : List Event) (result : Result Event FeedFault) : Type 0 where
+pub record Feeds {F : Type 0} (files : F → Files) (read_faults write_faults given : F → List ℕ → ℕ)
+    (name : List ℕ) (old now : F) (feed : CertFeed) (bytes : List ℕ) (events : List Event)
+    (result : Result Event FeedFault) : Type 0 where
   pub more : List ℕ
   pub reads : Reads files read_faults write_faults given name (length bytes) old now (broke result) more
   pub answer : IsAnswerOf (files old) name feed bytes more events result

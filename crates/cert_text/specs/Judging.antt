@@ -27,21 +27,25 @@ pub record Judges (old now : CertFeed) (more : List ℕ) (lines : List Line) : T
   pub within : IsWithin now.source now.lines
 
 -- a feed judged one line, and heard it
-pub record HearsLine (old now : CertFeed) (more : List ℕ) (heard next : Heard) (e : Option Event) : Type 0 where
+pub record HearsLine (old now : CertFeed) (more : List ℕ) (heard next : Heard)
+    (e : Option Event) : Type 0 where
   pub line : Line
   pub judges : Judges old now more (line ∷ [])
   pub hears : (next, e) ≡ hear heard line
   pub few : length now.source.left < 65536
 
--- the first refusal of this text is this one, where these pieces are to come and the next line has this number
+-- the first refusal of this text is this one, where these pieces are to come and the next line has this
+-- number
 abbrev pub RefusedFrom : ℕ → List Symbol → List ℕ → CertRefusal → Type 0
-RefusedFrom n to_come text why = to_come ≢ [] → refusal n to_come (ended_lines text) (unfinished text) ≡ Some why
+RefusedFrom n to_come text why =
+    to_come ≢ [] → refusal n to_come (ended_lines text) (unfinished text) ≡ Some why
 
 -- a feed found that the next line can't stand or is cut, and the file ends there
 abbrev pub RefusesLine : Files → List ℕ → CertFeed → List ℕ → Option CertRefusal → Type 0
 RefusesLine files name old more None = ⊤
 RefusesLine files name old more (Some why) =
-    RefusedFrom (old.lines + 1) old.position (old.source.left ++ more) why × Ends files name old.source.count more
+    RefusedFrom (old.lines + 1) old.position (old.source.left ++ more) why
+    × Ends files name old.source.count more
 
 -- a line that can't stand was passed over with all that follows it
 abbrev pub RefusesBad : Files → List ℕ → ℕ → ℕ → List ℕ → Option CertRefusal → Type 0
@@ -49,7 +53,8 @@ RefusesBad files name at lines more None = ⊤
 RefusesBad files name at lines more (Some why) = (why ≡ bad_line (lines + 1)) × Ends files name at more
 
 -- what judging one line answers
-abbrev pub OneLine : Files → List ℕ → CertFeed → CertFeed → List ℕ → Heard → Result (Hearing × Option Event) FeedFault → Type 0
+abbrev pub OneLine : Files → List ℕ → CertFeed → CertFeed → List ℕ → Heard
+    → Result (Hearing × Option Event) FeedFault → Type 0
 OneLine files name old now more heard (Ok r) = HearsLine old now more heard (heard_by r.0) r.1
 OneLine files name old now more heard (Err fault) = RefusesLine files name old more (text_refusal fault)
 
@@ -97,7 +102,9 @@ pub record IsWhole (files : Files) (name : List ℕ) (old now : CertFeed) (more 
 abbrev pub RefusesRest : Files → List ℕ → CertFeed → List ℕ → Option CertRefusal → Type 0
 RefusesRest files name old more None = ⊤
 RefusesRest files name old more (Some why) =
-    (why ≡ bad_line (old.lines + 1)) × (0 < length (old.source.left ++ more)) × Ends files name old.source.count more
+    (why ≡ bad_line (old.lines + 1))
+    × (0 < length (old.source.left ++ more))
+    × Ends files name old.source.count more
 
 -- what looking for the end answers
 abbrev pub Finishes : Files → List ℕ → CertFeed → CertFeed → List ℕ → Result Event FeedFault → Type 0

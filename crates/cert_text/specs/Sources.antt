@@ -41,18 +41,18 @@ broke (Err e) = cause e
 abbrev pub Gave : ℕ → ℕ → ℕ → Type 0
 Gave n before now = (now ≡ before + n) ⊎ (2 ^ 64 - 1 ≤ now)
 
--- a call read these bytes more, from a place on: as many as the count of bytes given grew; a file that is told and
--- begins with the bytes so far begins with these behind them; it broke off where a read failed, or where there are
--- 2 ^ 63 bytes
-pub record Reads {F : Type 0} (files : F → Files) (read_faults write_faults given : F → List ℕ → ℕ) (name : List ℕ)
-    (at : ℕ) (old now : F) (why : Option FeedFault) (more : List ℕ) : Type 0 where
+-- a call read these bytes more, from a place on: as many as the count of bytes given grew; a file that is told
+-- and begins with the bytes so far begins with these behind them; it broke off where a read failed, or where
+-- there are 2 ^ 63 bytes
+pub record Reads {F : Type 0} (files : F → Files) (read_faults write_faults given : F → List ℕ → ℕ)
+    (name : List ℕ) (at : ℕ) (old now : F) (why : Option FeedFault) (more : List ℕ) : Type 0 where
   pub same : files now ≡ files old
   pub later : Later read_faults write_faults given old now
   pub quiet : (why ≡ Some fault.ReadFault → ⊥) → SameFaults read_faults write_faults old now
   pub rose : why ≡ Some fault.ReadFault → Rose (read_faults old name) (read_faults now name)
   pub gave : Gave (length more) (given old name) (given now name)
-  pub front : IsSome (files old) → (bytes : List ℕ) → length bytes ≡ at → Begins bytes (bytes_at (files old) name)
-      → Begins (bytes ++ more) (bytes_at (files old) name)
+  pub front : IsSome (files old) → (bytes : List ℕ) → length bytes ≡ at
+      → Begins bytes (bytes_at (files old) name) → Begins (bytes ++ more) (bytes_at (files old) name)
   pub large : why ≡ Some fault.TooLarge → 2 ^ 63 ≤ at + length more
   pub within : (why ≡ Some fault.TooLarge → ⊥) → at + length more < 2 ^ 63
 
@@ -63,7 +63,8 @@ Ends files name at more =
     → bytes ++ more ≡ bytes_at files name
 
 -- the next piece stands in the place of what was left, if there is one
-pub record ReadOn (files : Files) (name : List ℕ) (old now : Held) (more : List ℕ) (goes_on : Bool) : Type 0 where
+pub record ReadOn (files : Files) (name : List ℕ) (old now : Held) (more : List ℕ)
+    (goes_on : Bool) : Type 0 where
   pub count : now.count ≡ old.count + length more
   pub left : now.left ≡ more
   pub some : goes_on ≡ true → 0 < length more
@@ -79,14 +80,16 @@ pub record TakesHere (old now : Held) (before line : List ℕ) (has_end : Bool) 
   pub none : has_end ≡ false → old.left ≡ front
 
 -- the next line was taken, or there is no LF up to the file's end
-pub record TakesLine (files : Files) (name : List ℕ) (old now : Held) (more line : List ℕ) (has_end : Bool) : Type 0 where
+pub record TakesLine (files : Files) (name : List ℕ) (old now : Held) (more line : List ℕ)
+    (has_end : Bool) : Type 0 where
   pub count : now.count ≡ old.count + length more
   pub free : no_end line ≡ true
   pub found : has_end ≡ true → (old.left ++ more ≡ line ++ 10 ∷ now.left) × (length now.left < 65536)
   pub none : has_end ≡ false → (old.left ++ more ≡ line) × Ends files name old.count more
 
 -- all was passed over up to the file's end; whether that was nothing
-pub record Drains (files : Files) (name : List ℕ) (old now : Held) (more : List ℕ) (is_end : Bool) : Type 0 where
+pub record Drains (files : Files) (name : List ℕ) (old now : Held) (more : List ℕ)
+    (is_end : Bool) : Type 0 where
   pub count : now.count ≡ old.count + length more
   pub ends : Ends files name old.count more
   pub left : now.left ≡ []

@@ -12,8 +12,8 @@ use pack_base::Folder;
 use pack_model::Memory;
 use std::alloc::Global;
 
-/// Where a reader of a certificate stands that holds neither its text nor its tree: it reads a piece of the file at
-/// a time, and gives what the lines say, event by event.
+/// Where a reader of a certificate stands that holds neither its text nor its tree: it reads a piece of the file
+/// at a time, and gives what the lines say, event by event.
 #[derive(Debug, Drop)]
 pub struct CertFeed {
     alloc: Global,
@@ -65,9 +65,10 @@ impl CertFeed {
         requires within { IsWithin self.old.source self.old.lines }
         requires closed { self.old.ended ≡ true }
         ensures bad { (more : List ℕ)
-            × Reads F.files F.read_faults F.write_faults F.given name.now self.old.source.count folder.old folder.new
-            (cause result) more
-            × RefusesBad (F.files folder.old) name.now self.old.source.count self.old.lines more (text_refusal result) }
+            × Reads F.files F.read_faults F.write_faults F.given name.now self.old.source.count
+            folder.old folder.new (cause result) more
+            × RefusesBad (F.files folder.old) name.now self.old.source.count self.old.lines more
+            (text_refusal result) }
         ensures closed { self.new.ended ≡ true }
     {
         match self.source.drain(folder, name) {
@@ -86,8 +87,8 @@ impl CertFeed {
         requires within { IsWithin self.old.source self.old.lines }
         requires closed { self.old.ended ≡ true }
         ensures line { (more : List ℕ)
-            × Reads F.files F.read_faults F.write_faults F.given name.now self.old.source.count folder.old folder.new
-            (broke result) more
+            × Reads F.files F.read_faults F.write_faults F.given name.now self.old.source.count
+            folder.old folder.new (broke result) more
             × OneLine (F.files folder.old) name.now self.old self.new more (heard_by hearing) result }
         ensures closed { self.new.ended ≡ true }
     {
@@ -106,8 +107,8 @@ impl CertFeed {
         requires within { IsWithin self.old.source self.old.lines }
         requires closed { self.old.ended ≡ true }
         ensures event { (more : List ℕ)
-            × Reads F.files F.read_faults F.write_faults F.given name.now self.old.source.count folder.old folder.new
-            (broke result) more
+            × Reads F.files F.read_faults F.write_faults F.given name.now self.old.source.count
+            folder.old folder.new (broke result) more
             × OneEvent (F.files folder.old) name.now self.old self.new more result }
         ensures closed { self.new.ended ≡ true }
     {
@@ -126,8 +127,8 @@ impl CertFeed {
         requires within { IsWithin self.old.source self.old.lines }
         requires closed { self.old.ended ≡ true }
         ensures finish { (more : List ℕ)
-            × Reads F.files F.read_faults F.write_faults F.given name.now self.old.source.count folder.old folder.new
-            (broke result) more
+            × Reads F.files F.read_faults F.write_faults F.given name.now self.old.source.count
+            folder.old folder.new (broke result) more
             × Finishes (F.files folder.old) name.now self.old self.new more result }
         ensures closed { self.new.ended ≡ true }
     {
@@ -144,8 +145,8 @@ impl CertFeed {
         requires closed { self.old.ended ≡ true }
         requires given { HasGiven self.old }
         ensures answer { (more : List ℕ)
-            × Reads F.files F.read_faults F.write_faults F.given name.now self.old.source.count folder.old folder.new
-            (broke result) more
+            × Reads F.files F.read_faults F.write_faults F.given name.now self.old.source.count
+            folder.old folder.new (broke result) more
             × ((bytes : List ℕ) (events : List Event) → Given self.old bytes events
             → IsAnswerOf (F.files folder.old) name.now self.new bytes more events result) }
         ensures goes_on { is_last result ≡ false → MayGoOn self.new.position self.new.source self.new.lines }
@@ -158,23 +159,23 @@ impl CertFeed {
         }
     }
 
-    /// The next event of the file of this name. It reads on by pieces of at most 65536 bytes. After `Finish` and
-    /// after each fault the feed has ended.
+    /// The next event of the file of this name. It reads on by pieces of at most 65536 bytes. After `Finish`
+    /// and after each fault the feed has ended.
     ///
     /// # Errors
     ///
-    /// `ReadFault` where a read failed; `TooLarge` where the file gave more than 2^63 - 1 bytes; `BadLine(n)` where line
-    /// n, counted from 1, is the first that no certificate has after the lines before it, or where bytes follow the
-    /// line `end` there; `Cut` where all lines can stand and `end` isn't among them; `Memory` where memory runs out. A
-    /// bad line or a cut is answered only once the file was read to its end.
+    /// `ReadFault` where a read failed; `TooLarge` where the file gave more than 2^63 - 1 bytes; `BadLine(n)`
+    /// where line n, counted from 1, is the first that no certificate has after the lines before it, or where
+    /// bytes follow the line `end` there; `Cut` where all lines can stand and `end` isn't among them; `Memory`
+    /// where memory runs out. A bad line or a cut is answered only once the file was read to its end.
     pub fn next<F: Folder>(&mut self, folder: &mut F, name: &str) -> Result<Event, FeedFault>
         requires goes_on { self.old.ended ≡ false }
         requires given { HasGiven self.old }
 
         // What it answers, for all bytes and events that it was given.
         ensures answer { (bytes : List ℕ) (events : List Event) → Given self.old bytes events
-            → Feeds F.files F.read_faults F.write_faults F.given name.now folder.old folder.new self.new bytes events
-            result }
+            → Feeds F.files F.read_faults F.write_faults F.given name.now folder.old folder.new self.new
+            bytes events result }
         ensures ended { self.new.ended ≡ is_last result }
         // A loop over events ends: each but the last leaves fewer bytes that may come.
         ensures shrinks { is_last result ≡ false → bytes_ahead self.new.source < bytes_ahead self.old.source }

@@ -10,15 +10,17 @@ use crate::words::read_line;
 use pack_model::Memory;
 use std::alloc::Global;
 
-/// What a line says, where it can stand; the position is then past it. None where it can't: what is to come isn't
-/// known then.
+/// What a line says, where it can stand; the position is then past it. None where it can't: what is to come
+/// isn't known then.
 pub(crate) fn judge(
     alloc: Global,
     position: &mut Position,
     line: &[u8],
 ) -> Result<Option<Line>, Memory>
-    ensures stands { IfOk result (λ found. IfSome found (λ l. (line_of line.now ≡ Some l) × (after position.old l ≡ Some position.new))) }
-    ensures refused { IfOk result (λ found. found ≡ None → option_and_then (λ l. after position.old l) (line_of line.now) ≡ None) }
+    ensures stands { IfOk result (λ found. IfSome found (λ l.
+        (line_of line.now ≡ Some l) × (after position.old l ≡ Some position.new))) }
+    ensures refused { IfOk result (λ found. found ≡ None
+        → option_and_then (λ l. after position.old l) (line_of line.now) ≡ None) }
 {
     let Some(said) = read_line(alloc, line)? else {
         return Ok(None);

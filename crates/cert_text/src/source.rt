@@ -14,8 +14,8 @@ const PIECE: usize = 65536;
 /// With so many bytes a file is too large.
 const TOO_LARGE: u64 = 1 << 63;
 
-/// Where a reader stands in a file: the last piece read, the part of it that wasn't taken yet, and how many bytes
-/// were read.
+/// Where a reader stands in a file: the last piece read, the part of it that wasn't taken yet, and how many
+/// bytes were read.
 #[derive(Debug, Drop)]
 pub(crate) struct Source {
     piece: Vec<u8>,
@@ -30,7 +30,10 @@ impl Model for Source {
 
     ghost Value = { Held };
 
-    ghost view = { λ a. record { left = take (a.upto - a.from) (drop a.from a.piece.items); count = a.count } };
+    ghost view = { λ a. record {
+      left = take (a.upto - a.from) (drop a.from a.piece.items);
+      count = a.count;
+    } };
 
     ghost invariant = { λ a. (a.from ≤ a.upto) × (a.upto ≤ 65536) × (length a.piece.items ≡ 65536) };
 }
@@ -89,8 +92,8 @@ impl Source {
         }
     }
 
-    /// Takes the next line, without its LF. False where no LF is left up to the file's end: the line is then what
-    /// stands there.
+    /// Takes the next line, without its LF. False where no LF is left up to the file's end: the line is then
+    /// what stands there.
     pub fn next_line<F: Folder>(
         &mut self,
         folder: &mut F,
