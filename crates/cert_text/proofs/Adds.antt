@@ -1,16 +1,13 @@
 -- Lines that are added one after the other.
-use Rattle.std.proofs.Common.{◌≡◌, ◌<◌, ◌≤◌, ℕ, ◌+◌, List, [], ◌∷◌, ◌++◌, length, take, get_or, map, codes, decimal, OnOk, refl, sym, ap, subst, ◌∙◌, append_assoc, append-nil}
+use Rattle.std.proofs.Common.{◌≡◌, ◌<◌, ◌≤◌, ℕ, ◌+◌, List, [], ◌∷◌, ◌++◌, length, take, get_or, map, codes, decimal, OnOk, sym, ap, subst, ◌∙◌, append_assoc, append-nil}
 use Rattle.std.specs.Prelude.{Result}
-use Rattle.std.specs.List.{AllByRecursion, flat_map, join_with_byte}
+use Rattle.std.specs.List.{flat_map, join_with_byte}
 use Rattle.std.proofs.lemmas.Grind.{flat_map-append}
 use Rattle.std.proofs.lemmas.List.{flat_map_more, take_all, take_more}
 use Rattle.std.proofs.lemmas.List.Folds.{flat_map-map}
 use Rattle.std.proofs.lemmas.Result.{on_ok_weaker}
-use Rattle.pack_model.specs.declared.memory.Memory.{Memory}
-use Rattle.response_test.specs.declared.evidence.Evidence.TheVariants as evidence
 use Rattle.cert_text.specs.declared.line.Line.{Line}
-use Rattle.cert_text.specs.declared.line.Line.TheVariants as line
-use Rattle.cert_text.specs.Lines.{ended, line_text, line_words, text_of}
+use Rattle.cert_text.specs.Lines.{ended, line_text, text_of}
 use Rattle.cert_text.specs.Adding.{Adds, HasNumbersOfTypes, numbers_text}
 use Rattle.cert_text.proofs.Texts.{text_append}
 use Rattle.cert_text.proofs.Cuts.{all_append}

@@ -51,7 +51,7 @@ tree_ahead marks depth (m_fail es) stand ss vs = record {
 tree_ahead true depth (shard t) stand ss vs = record {
   line = line.ShardLine;
   rest = lines_of (tree_events t) ++ (line.JoinLine ∷ spell_all ss vs);
-  next = symbol.TreeAt false depth ∷ symbol.Join ∷ [];
+  next = symbol.TreeAt false depth ∷ symbol.Join depth ∷ [];
   is = ap (λ x. line.ShardLine ∷ x) (sym (two (tree_events t) (event.JoinMark ∷ []) (spell_all ss vs)));
   expands = refl;
   fills = record { values = ((t, stand), (tt, vs)); lines = refl };
@@ -149,5 +149,5 @@ forward symbol.Parts x ss vs = from_frames x.0 x.1
 forward symbol.Lemmas x ss vs = trees_ahead x.lemmas x.main x.lemmas_stand x.main_stands ss vs
 forward (symbol.TreeAt marks depth) x ss vs = tree_ahead marks depth x.0 x.1 ss vs
 forward symbol.Against x ss vs = record { line = line.AgainstLine x.0 x.1; rest = spell_all ss vs; next = []; is = refl; expands = refl; fills = record { values = vs; lines = refl } }
-forward symbol.Join x ss vs = record { line = line.JoinLine; rest = spell_all ss vs; next = []; is = refl; expands = refl; fills = record { values = vs; lines = refl } }
+forward (symbol.Join depth) x ss vs = record { line = line.JoinLine; rest = spell_all ss vs; next = []; is = refl; expands = refl; fills = record { values = vs; lines = refl } }
 forward symbol.End x ss vs = record { line = line.EndLine; rest = spell_all ss vs; next = []; is = refl; expands = refl; fills = record { values = vs; lines = refl } }

@@ -46,7 +46,7 @@ Value symbol.Parts = List FrameLine × Trees
 Value symbol.Lemmas = Trees
 Value (symbol.TreeAt marks depth) = (t : Marked) × Stands marks depth t
 Value symbol.Against = ℕ × Evidence
-Value symbol.Join = ⊤
+Value (symbol.Join depth) = ⊤
 Value symbol.End = ⊤
 
 -- what lemmas and a main tree say
@@ -74,7 +74,7 @@ spell symbol.Parts x = lines_of (frames_said x.0 (trees_said x.1))
 spell symbol.Lemmas x = lines_of (trees_said x)
 spell (symbol.TreeAt marks depth) x = lines_of (tree_events x.0)
 spell symbol.Against x = against x ∷ []
-spell symbol.Join x = line.JoinLine ∷ []
+spell (symbol.Join depth) x = line.JoinLine ∷ []
 spell symbol.End x = line.EndLine ∷ []
 
 -- what pieces can be
@@ -255,6 +255,6 @@ backward (symbol.TreeAt true depth) line.ShardLine ss ls f =
       lines = ap (λ x. line.ShardLine ∷ x) (sym (two (tree_events f.values.0.0) (event.JoinMark ∷ []) (spell_all ss f.values.1.1)) ∙ f.lines);
     }
 backward symbol.Against (line.AgainstLine label e) ss ls f = record { values = ((label, e), f.values); lines = ap (λ x. line.AgainstLine label e ∷ x) f.lines }
-backward symbol.Join line.JoinLine ss ls f = record { values = (tt, f.values); lines = ap (λ x. line.JoinLine ∷ x) f.lines }
+backward (symbol.Join depth) line.JoinLine ss ls f = record { values = (tt, f.values); lines = ap (λ x. line.JoinLine ∷ x) f.lines }
 backward symbol.End line.EndLine ss ls f = record { values = (tt, f.values); lines = ap (λ x. line.EndLine ∷ x) f.lines }
 backward s l ss ls f = absurd f

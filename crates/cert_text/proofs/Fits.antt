@@ -1,6 +1,6 @@
 -- A certificate that fits has a text, with its marks and without them.
-use Rattle.std.proofs.Common.{◌≡◌, ◌<◌, ◌≤◌, ℕ, zero, suc, List, [], ◌∷◌, ◌++◌, length, map, Bool, true, false, Option, Some, None, refl, sym, ap, subst, ◌∙◌}
-use Rattle.std.specs.Prelude.{⊤, All, Ok}
+use Rattle.std.proofs.Common.{◌≡◌, ◌≤◌, ℕ, zero, suc, List, [], ◌∷◌, ◌++◌, map, Bool, true, false, Option, Some, None, refl, sym, ap, subst, ◌∙◌}
+use Rattle.std.specs.Prelude.{⊤}
 use Rattle.std.specs.List.{AllByRecursion, flat_map}
 use Rattle.std.specs.Option.{option_map}
 use Rattle.std.proofs.lemmas.List.Elements.{recursion_from_All}
@@ -15,9 +15,9 @@ use Rattle.cert_text.specs.Trees.{AllStand, Plain, Plains, Stands, bound, count,
 use Rattle.cert_text.specs.Parts.{CertParts, HasParts, LemmaOf, MainStands, unmark_cert, unmark_lemma}
 use Rattle.cert_text.specs.CertEvents.{lemma_events, main_events, tree_events, trees_events}
 use Rattle.cert_text.specs.Lines.{LineInRange, against, cert_lines, lines_of, text_of}
-use Rattle.cert_text.specs.CertText.{CertText, InRange}
-use Rattle.cert_text.specs.Written.{CertFits, HasNumbers, HasRoom, LemmaFits, MainFits, PieceFits, TreeFits, TreesFit, below, lemma_tree, main_marks, number_of_trees, with_marks, with_marks_all, written_cert, written_lemma}
-use Rattle.cert_text.specs.Adding.{Adds, EvidenceNumbers, HasNumbersOfTypes, tree_lines}
+use Rattle.cert_text.specs.CertText.{CertText}
+use Rattle.cert_text.specs.Written.{CertFits, HasNumbers, HasRoom, LemmaFits, MainFits, PieceFits, TreeFits, TreesFit, lemma_tree, main_marks, number_of_trees, with_marks, with_marks_all, written_cert, written_lemma}
+use Rattle.cert_text.specs.Adding.{Adds, EvidenceNumbers, HasNumbersOfTypes}
 use Rattle.cert_text.proofs.Fills.{lines_append}
 use Rattle.cert_text.proofs.OfText.{mapped_parts}
 use Rattle.cert_text.proofs.Cuts.{all_append}

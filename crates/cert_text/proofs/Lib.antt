@@ -22,3 +22,7 @@ pub mod Adds
 pub mod TreeLines
 pub mod Fits
 pub mod Room
+pub mod SourceLaws
+pub mod Shapes
+pub mod GivenLaws
+pub mod FeedLaws

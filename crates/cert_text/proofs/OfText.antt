@@ -1,11 +1,11 @@
 -- The certificate of a text, or why it has none, in the user's words.
 use Rattle.std.proofs.Common.{◌≡◌, ℕ, List, map, false, true, Option, Some, None, Ok, Err, refl, sym, ap, subst, ◌∙◌}
-use Rattle.std.specs.Prelude.{IsSome, Result}
+use Rattle.std.specs.Prelude.{IsSome}
 use Rattle.std.specs.Option.{option_map}
 use Rattle.cert_text.specs.declared.parts.Kind.{Kind}
 use Rattle.cert_text.specs.declared.parts.Kind.TheVariants.{KindPlaced, KindTimed, KindBetween, KindBest, KindNoSolution}
 use Rattle.cert_text.specs.declared.parts.FrameLine.{FrameLine}
-use Rattle.cert_text.specs.Trees.{Marked, unmark}
+use Rattle.cert_text.specs.Trees.{unmark}
 use Rattle.cert_text.specs.Parts.{CertParts, HasParts, LemmaOf, unmark_lemma}
 use Rattle.cert_text.specs.CertText.{CertRefusal, CertText, IsAnswer, bad_line, cut}
 use Rattle.cert_text.specs.Reading.{cert_of_text, refusal_of, unless, value_of}

@@ -1,6 +1,5 @@
 -- What a text says fits into a text again.
-use Rattle.std.proofs.Common.{◌≡◌, ◌<◌, ◌≤◌, ℕ, zero, suc, List, [], ◌∷◌, ◌++◌, length, map, Bool, true, false, Option, Some, None, refl, sym, ap, subst, ◌∙◌}
-use Rattle.std.specs.Prelude.{⊤, All}
+use Rattle.std.proofs.Common.{◌≡◌, ◌≤◌, ℕ, zero, suc, List, [], ◌∷◌, ◌++◌, map, Bool, true, false, Option, Some, None, refl, sym, ap, subst}
 use Rattle.std.specs.List.{AllByRecursion, flat_map}
 use Rattle.std.specs.Option.{option_map}
 use Rattle.std.proofs.lemmas.List.Elements.{All-from_recursion}
@@ -10,7 +9,6 @@ use Rattle.cert_text.specs.declared.parts.FrameLine.{FrameLine}
 use Rattle.cert_text.specs.declared.event.Event.{Event}
 use Rattle.cert_text.specs.declared.event.Event.TheVariants as event
 use Rattle.cert_text.specs.declared.line.Line.{Line}
-use Rattle.cert_text.specs.declared.line.Line.TheVariants as line
 use Rattle.cert_text.specs.Trees.{AllStand, Marked, Markeds, Stands, count, m_bound, m_fail, m_inner, m_left, m_more, m_none, shard, unmark, unmark_all}
 use Rattle.cert_text.specs.Parts.{CertOf, CertParts, LemmaOf, MainStands, unmark_cert, unmark_lemma}
 use Rattle.cert_text.specs.CertEvents.{lemma_events, main_events, tree_events, trees_events}

@@ -1,9 +1,12 @@
 -- The pieces of runs.
-use Rattle.std.proofs.Common.{◌≡◌, ◌<◌, ℕ, zero, suc, ◌-◌, ◌==◌, List, [], ◌∷◌, ◌++◌, length, true, Some, refl, sym, ap, ◌∙◌, append_assoc, append-nil, replicate, arith}
+use Rattle.std.proofs.Common.{◌≡◌, ◌<◌, ◌≤◌, ℕ, zero, suc, ◌+◌, ◌-◌, ◌==◌, get_or, take, List, [], ◌∷◌, ◌++◌, length, true, Some, refl, sym, ap, ◌∙◌, append_assoc, append-nil, replicate, arith}
 use Rattle.std.specs.List.{list_all}
 use Rattle.std.specs.Option.{option_map}
 use Rattle.std.proofs.lemmas.Bool.{and_parts, eq-eqb, eqb-true}
+use Rattle.std.proofs.lemmas.List.{take_more}
 use Rattle.cert_text.specs.declared.symbol.Symbol.{Symbol}
+use Rattle.cert_text.specs.declared.symbol.Symbol.TheVariants as symbol
+use Rattle.cert_text.specs.Depths.{depth_of}
 use Rattle.cert_text.specs.declared.position.Run.{Run}
 use Rattle.cert_text.specs.declared.position.Next.{Next}
 use Rattle.cert_text.specs.declared.line.Line.{Line}
@@ -66,3 +69,36 @@ pub pieces_empty : (rs : List Run) → length rs ≡ 0 → pieces rs ≡ []
 unfolding pieces
 pieces_empty [] e = refl
 pieces_empty (r ∷ rs) e = absurd (omega arith)
+
+-- the depth is that of the first piece
+depth_head : (s : Symbol) (ss : List Symbol) → depth_of (s ∷ ss) ≡ depth_of (s ∷ [])
+depth_head (symbol.TreeAt marks depth) ss = refl
+depth_head (symbol.Join depth) ss = refl
+depth_head s ss = refl
+
+-- the depth is that of the first run with pieces
+depth_some : (n : ℕ) (s : Symbol) (ss : List Symbol) → 0 < n → depth_of (replicate n s ++ ss) ≡ depth_of (s ∷ [])
+depth_some zero s ss some = absurd (omega arith)
+depth_some (suc n) s ss some = depth_head s (replicate n s ++ ss)
+
+-- the runs up to one are those before it, and it
+take_run : (rs : List Run) (place : ℕ) (d : Run) → 0 < place → place ≤ length rs → take place rs ≡ take (place - 1) rs ++ get_or rs (place - 1) d ∷ []
+take_run rs place d some fits = let same : place ≡ place - 1 + 1 = omega arith in ap (λ (k : ℕ). take k rs) same ∙ take_more rs (place - 1) d (omega arith)
+
+-- the last run with pieces tells the depth
+pub depth_found : (rs : List Run) (place : ℕ) (d : Run) (n : ℕ) → 0 < place → place ≤ length rs → pieces (take place rs) ≡ pieces rs → 0 < (get_or rs (place - 1) d).count
+    → n ≡ depth_of ((get_or rs (place - 1) d).symbol ∷ []) → n ≡ depth_of (pieces rs)
+depth_found rs place d n some fits same long is =
+    let r : Run = get_or rs (place - 1) d in
+    is ∙ sym (depth_some r.count r.symbol (pieces (take (place - 1) rs)) long) ∙ ap depth_of (sym (pieces_push (take (place - 1) rs) r) ∙ ap pieces (sym (take_run rs place d some fits)) ∙ same)
+
+-- a run without pieces is passed over
+pub depth_less : (rs : List Run) (place : ℕ) (d : Run) → 0 < place → place ≤ length rs → pieces (take place rs) ≡ pieces rs → (get_or rs (place - 1) d).count ≤ 0 → pieces (take (place - 1) rs) ≡ pieces rs
+depth_less rs place d some fits same none =
+    let empty : (get_or rs (place - 1) d).count ≡ 0 = omega arith in
+    sym (run_nothing (take (place - 1) rs) (get_or rs (place - 1) d) empty) ∙ ap pieces (sym (take_run rs place d some fits)) ∙ same
+
+-- without runs nothing is to come
+pub depth_none : (rs : List Run) (place : ℕ) → pieces (take place rs) ≡ pieces rs → place ≡ 0 → 0 ≡ depth_of (pieces rs)
+unfolding pieces
+depth_none rs place same none = ap depth_of (ap (λ (k : ℕ). pieces (take k rs)) (sym none) ∙ same)

@@ -10,7 +10,6 @@ use Rattle.cert_text.specs.declared.parts.Lemma.{Lemma}
 use Rattle.cert_text.specs.declared.parts.Tree.{Tree}
 use Rattle.cert_text.specs.declared.event.Event.{Event}
 use Rattle.cert_text.specs.declared.event.Event.TheVariants as event
-use Rattle.cert_text.specs.declared.line.Line.{Line}
 use Rattle.cert_text.specs.declared.line.Line.TheVariants as line
 use Rattle.cert_text.specs.Trees.{Plain, count, inner, none}
 use Rattle.cert_text.specs.PlainTree.{onto, plain_lemma, plain_of}

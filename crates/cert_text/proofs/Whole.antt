@@ -37,7 +37,7 @@ least symbol.Parts = ([], least_trees)
 least symbol.Lemmas = least_trees
 least (symbol.TreeAt marks depth) = (m_bound, tt)
 least symbol.Against = (0, evidence.Over)
-least symbol.Join = tt
+least (symbol.Join depth) = tt
 least symbol.End = tt
 
 -- it is in range
@@ -50,7 +50,7 @@ least_in_range symbol.Parts = (tt, (tt, (tt, tt)))
 least_in_range symbol.Lemmas = (tt, (tt, (tt, tt)))
 least_in_range (symbol.TreeAt marks depth) = (tt, tt)
 least_in_range symbol.Against = ((omega arith, tt), tt)
-least_in_range symbol.Join = (tt, tt)
+least_in_range (symbol.Join depth) = (tt, tt)
 least_in_range symbol.End = (tt, tt)
 
 -- lines in range that fill the pieces

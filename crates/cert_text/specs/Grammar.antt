@@ -23,7 +23,7 @@ subtrees marks depth n =
 
 -- the rest of a marked tree, where marks may stand
 abbrev pub marked_tree : Bool → ℕ → Option (List Symbol)
-marked_tree true depth = Some (symbol.TreeAt false depth ∷ symbol.Join ∷ [])
+marked_tree true depth = Some (symbol.TreeAt false depth ∷ symbol.Join depth ∷ [])
 marked_tree false depth = None
 
 -- what is to come of a piece after its first line, if this line can be its first
@@ -43,7 +43,7 @@ expand (symbol.TreeAt marks depth) line.OpenLine = Some []
 expand (symbol.TreeAt marks depth) (line.FailLine n) = Some (replicate n symbol.Against)
 expand (symbol.TreeAt marks depth) line.ShardLine = marked_tree marks depth
 expand symbol.Against (line.AgainstLine label e) = Some []
-expand symbol.Join line.JoinLine = Some []
+expand (symbol.Join depth) line.JoinLine = Some []
 expand symbol.End line.EndLine = Some []
 expand s l = None
 

@@ -1,5 +1,5 @@
 -- The lines of certificates: which there are, in which range, and with which bytes.
-use Rattle.std.specs.Prelude.{◌≡◌, ⊤, ◌<◌, ◌≤◌, ◌^◌, ℕ, List, [], ◌∷◌, ◌++◌, length, map, codes, decimal}
+use Rattle.std.specs.Prelude.{⊤, ◌<◌, ◌≤◌, ◌^◌, ℕ, List, [], ◌∷◌, ◌++◌, length, map, codes, decimal}
 use Rattle.std.specs.List.{flat_map, AllByRecursion, join_with_byte}
 use Rattle.response_test.specs.declared.evidence.Evidence.{Evidence}
 use Rattle.response_test.specs.declared.evidence.Evidence.TheVariants as evidence

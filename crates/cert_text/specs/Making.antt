@@ -5,7 +5,7 @@ use Rattle.cert_text.specs.declared.parts.Kind.TheVariants.{KindPlaced}
 use Rattle.cert_text.specs.declared.parts.FrameLine.{FrameLine}
 use Rattle.cert_text.specs.declared.event.Event.{Event}
 use Rattle.cert_text.specs.declared.event.Event.TheVariants as event
-use Rattle.cert_text.specs.Trees.{Plain, Plains, bound, fail, inner, left, more, none}
+use Rattle.cert_text.specs.Trees.{Plain, bound, fail, inner, left, more, none}
 use Rattle.cert_text.specs.Parts.{CertParts, LemmaOf}
 use Rattle.cert_text.specs.PlainTree.{onto}
 

@@ -1,5 +1,5 @@
 -- The marks with which a certificate is written, and which certificates have a text.
-use Rattle.std.specs.Prelude.{⊤, ◌<◌, ◌≤◌, ℕ, zero, suc, List, Bool, true, false, Option, None, Some, All, length, map}
+use Rattle.std.specs.Prelude.{⊤, ◌<◌, ◌≤◌, ℕ, zero, suc, Bool, true, false, Option, None, Some, All, length, map}
 use Rattle.std.specs.Option.{option_map}
 use Rattle.response_test.specs.declared.evidence.Evidence.{Evidence}
 use Rattle.response_test.specs.declared.evidence.Evidence.TheVariants as evidence

@@ -4,6 +4,7 @@ ghost use Rattle.std.specs.Option.{option_map};
 ghost use Rattle.std.specs.Prelude.{◌⊎◌, ◌==◌};
 ghost use Rattle.std.specs.List.{list_all};
 ghost use Rattle.cert_text.specs.declared.symbol.Symbol.TheVariants as symbol;
+ghost use Rattle.cert_text.specs.Depths.{depth_of};
 ghost use Rattle.cert_text.specs.Grammar.{after, body, expand, marked_tree, start, subtrees};
 ghost use Rattle.cert_text.specs.Pieces.{next_pieces, of_run, pieces};
 
@@ -122,7 +123,7 @@ fn shard_at(marks: bool, depth: u32) -> Option<Next>
     ensures { option_map next_pieces result ≡ marked_tree marks depth }
 {
     if marks {
-        Some(both(Symbol::TreeAt(false, depth), Symbol::Join))
+        Some(both(Symbol::TreeAt(false, depth), Symbol::Join(depth)))
     } else {
         None
     }
@@ -159,7 +160,7 @@ fn next_of(symbol: Symbol, line: &Line) -> Option<Next>
             Some(both(Symbol::TreeAt(true, 0), Symbol::End))
         }
         (Symbol::Against, Line::AgainstLine(_, _)) => Some(nothing()),
-        (Symbol::Join, Line::JoinLine) => Some(nothing()),
+        (Symbol::Join(_), Line::JoinLine) => Some(nothing()),
         (Symbol::End, Line::EndLine) => Some(nothing()),
         _ => None,
     }
@@ -195,6 +196,31 @@ fn take_first(runs: &mut Vec<Run>) -> Result<Option<Symbol>, Memory>
     Ok(None)
 }
 
+// How many inner nodes lack subtrees where this piece comes next.
+fn depth_at(symbol: Symbol) -> u32
+    ensures { result ≡ depth_of (symbol ∷ []) }
+{
+    match symbol {
+        Symbol::TreeAt(_, depth) | Symbol::Join(depth) => depth,
+        _ => 0,
+    }
+}
+
+// How many inner nodes lack subtrees where these pieces are to come.
+fn depth_in(runs: &[Run]) -> u32
+    ensures { result ≡ depth_of (pieces runs.now) }
+{
+    let mut place = runs.len();
+    while place > 0 {
+        place -= 1;
+        let run = runs[place];
+        if run.count > 0 {
+            return depth_at(run.symbol);
+        }
+    }
+    0
+}
+
 fn no_pieces(runs: &[Run]) -> bool
     ensures { result ≡ list_all (λ r. r.count == 0) runs.now }
 {
@@ -226,6 +252,13 @@ impl Position {
         put(&mut self.runs, next.second)?;
         put(&mut self.runs, next.first)?;
         Ok(true)
+    }
+
+    /// How many inner nodes lack subtrees.
+    pub fn depth(&self) -> usize
+        ensures { result ≡ depth_of self.now }
+    {
+        depth_in(&self.runs) as usize
     }
 
     /// Whether nothing is to come any more.

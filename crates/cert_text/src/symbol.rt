@@ -17,8 +17,8 @@ pub(crate) enum Symbol {
     TreeAt(bool, u32),
     /// A line of evidence.
     Against,
-    /// The end of a marked tree.
-    Join,
+    /// The end of a marked tree, which stands below so many inner nodes.
+    Join(u32),
     /// The end.
     End,
 }

@@ -1,4 +1,4 @@
-use Rattle.std.proofs.Common.{◌≡◌, List, ℕ, Ok, Err, subst}
+use Rattle.std.proofs.Common.{List, ℕ, Ok, Err, subst}
 use Rattle.std.specs.Prelude.{IfOk, Result}
 use Rattle.csv_table.specs.Gives.{Gives}
 use Rattle.cert_text.specs.declared.fault.CertFault.{CertFault}
