@@ -42,8 +42,7 @@ const PLANNED_ONE: &[u8] =
 const ONE_CERT: &[u8] = b"canpack certificate 1\nkind best\nframe 7000 0\nmain\ni 1\nb\nend\n";
 
 /// It can't be in time.
-const LATE_CERT: &[u8] =
-    b"canpack certificate 1\nkind none\nmain\ni 1\nf 1\nlate 0 0 1 / 0\nend\n";
+const LATE_CERT: &[u8] = b"canpack certificate 1\nkind none\nmain\ni 1\nf 1\nlate 0 0 1 / 0\nend\n";
 
 /// Three signals of 64 bytes every ms: 97200 ticks of 80000.
 const THREE: &[u8] =
@@ -252,13 +251,7 @@ const PLANS: [(&[u8], &str, u8, u8, &[u8]); 14] = [
         0,
         b"open 7400/800000 59200/6400000\nopen 7400/800000 59200/6400000\n",
     ),
-    (
-        SIGNALS,
-        "4",
-        0,
-        0,
-        b"best 7400/800000\nbest 7400/800000\n",
-    ),
+    (SIGNALS, "4", 0, 0, b"best 7400/800000\nbest 7400/800000\n"),
     (THREE, "1000", 10, 0, b"none\nnone\n"),
     // Two senders, and signals of 9, 33 and 49 bits every 10 ms and of 512 bits every second: 9 and 49 bits together are a
     // frame of 9800 ticks; the others have 8600 and 32400.
@@ -349,7 +342,9 @@ fn planned_then_checked(rt: HostRuntime) -> Result<(), Fail> {
         folder.put(NAMES[0], NETWORK)?;
         folder.put(NAMES[1], signals)?;
         let mut out = MemSink::new(rt.alloc());
-        let words = ["plan", NAMES[0], NAMES[1], NAMES[2], NAMES[3], *branches, "1"];
+        let words = [
+            "plan", NAMES[0], NAMES[1], NAMES[2], NAMES[3], *branches, "1",
+        ];
         assert_eq!(rt;
             status_of(&rt, &words, &mut folder, &mut out)?,
             *planned,

@@ -288,7 +288,6 @@ module _ {words : List (String Global)} {before now : Files} {said_before said_n
       let all : Own (check_meaning (names_in words)) before now status.Rejected = rejects _ check.1 five in
       ok_and (texts_at (names_in words) before) _ _ (λ judged h. rejected_of all.answer judged h.0 all.has_status h.1 h.2) (all.finishes.answers told)
 
-
   -- a command that ended as a plan does has an answer of its own
   pub ended : (given : Command) → command_of words ≡ Some given → (ends : IsEnded number)
       → Finishes (meaning_of given words) before now (called.answered (inl ends)).0

@@ -26,12 +26,7 @@ fn words_of_case(alloc: Global, number: u32, problem: &Problem) -> Result<String
 }
 
 /// The words of a case and then a line.
-fn case_line(
-    alloc: Global,
-    number: u32,
-    problem: &Problem,
-    line: &[u8],
-) -> Result<Vec<u8>, Memory>
+fn case_line(alloc: Global, number: u32, problem: &Problem, line: &[u8]) -> Result<Vec<u8>, Memory>
     ensures { IfOk result (λ text. text.items ≡ count_words number problem.now (codes " " ++ line.now)) }
 {
     let mut text = words_of_case(alloc, number, problem)?.into_bytes();
