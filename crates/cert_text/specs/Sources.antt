@@ -41,9 +41,9 @@ broke (Err e) = cause e
 abbrev pub Gave : ℕ → ℕ → ℕ → Type 0
 Gave n before now = (now ≡ before + n) ⊎ (2 ^ 64 - 1 ≤ now)
 
--- a call read these bytes more, from a place on: as many as the count of bytes given grew; a file that is told
--- and begins with the bytes so far begins with these behind them; it broke off where a read failed, or where
--- there are 2 ^ 63 bytes
+-- a call read these bytes more, from a place on: as many as the count of bytes given grew; a file that is
+-- told and begins with the bytes so far begins with these behind them; it broke off where a read failed, or
+-- where there are 2 ^ 63 bytes
 pub record Reads {F : Type 0} (files : F → Files) (read_faults write_faults given : F → List ℕ → ℕ)
     (name : List ℕ) (at : ℕ) (old now : F) (why : Option FeedFault) (more : List ℕ) : Type 0 where
   pub same : files now ≡ files old

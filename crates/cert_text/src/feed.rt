@@ -12,8 +12,8 @@ use pack_base::Folder;
 use pack_model::Memory;
 use std::alloc::Global;
 
-/// Where a reader of a certificate stands that holds neither its text nor its tree: it reads a piece of the file
-/// at a time, and gives what the lines say, event by event.
+/// Where a reader of a certificate stands that holds neither its text nor its tree: it reads a piece of the
+/// file at a time, and gives what the lines say, event by event.
 #[derive(Debug, Drop)]
 pub struct CertFeed {
     alloc: Global,
@@ -166,8 +166,8 @@ impl CertFeed {
     ///
     /// `ReadFault` where a read failed; `TooLarge` where the file gave more than 2^63 - 1 bytes; `BadLine(n)`
     /// where line n, counted from 1, is the first that no certificate has after the lines before it, or where
-    /// bytes follow the line `end` there; `Cut` where all lines can stand and `end` isn't among them; `Memory`
-    /// where memory runs out. A bad line or a cut is answered only once the file was read to its end.
+    /// bytes follow the line `end` there; `Cut` where all lines can stand and `end` isn't among them;
+    /// `Memory` where memory runs out. A bad line or a cut is answered only once the file was read to its end.
     pub fn next<F: Folder>(&mut self, folder: &mut F, name: &str) -> Result<Event, FeedFault>
         requires goes_on { self.old.ended ≡ false }
         requires given { HasGiven self.old }
