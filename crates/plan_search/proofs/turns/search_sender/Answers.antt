@@ -18,7 +18,7 @@ returns-then-pending c =
     let told = c.in_ok-advance.ensures in
     let it : Reached c.args.problem.now c.args.sender c.args.share c.advance.new.self =
     reached c.args.problem.now c.args.sender c.args.share c.in_ok-advance.field-0 c.in_ok-judge.judge
-    c.new-search.result c.advance.new.self c.in_ok-judge.ensures
+    c.new-search.result c.advance.new.self c.in_ok-judge.ensures.is
     (c.new-search.ensures.items ∙ c.in_ok-partial.ensures.range)
     (c.new-search.ensures.start ∙ c.in_ok-partial.ensures.none) c.new-search.ensures.at told.within told.fewer
     told.gives in
@@ -33,7 +33,7 @@ unreachable-requires c =
     let told = c.in_ok-advance.ensures in
     let it : Reached c.args.problem.now c.args.sender c.args.share c.advance.new.self =
     reached c.args.problem.now c.args.sender c.args.share c.in_ok-advance.field-0 c.in_ok-judge.judge
-    c.new-search.result c.advance.new.self c.in_ok-judge.ensures
+    c.new-search.result c.advance.new.self c.in_ok-judge.ensures.is
     (c.new-search.ensures.items ∙ c.in_ok-partial.ensures.range)
     (c.new-search.ensures.start ∙ c.in_ok-partial.ensures.none) c.new-search.ensures.at told.within told.fewer
     told.gives in
@@ -47,7 +47,7 @@ overflow_mul-value c =
     let told = c.in_ok-advance.ensures in
     let it : Reached c.args.problem.now c.args.sender c.args.share c.advance.new.self =
     reached c.args.problem.now c.args.sender c.args.share c.in_ok-advance.field-0 c.in_ok-judge.judge
-    c.new-search.result c.advance.new.self c.in_ok-judge.ensures
+    c.new-search.result c.advance.new.self c.in_ok-judge.ensures.is
     (c.new-search.ensures.items ∙ c.in_ok-partial.ensures.range)
     (c.new-search.ensures.start ∙ c.in_ok-partial.ensures.none) c.new-search.ensures.at told.within told.fewer
     told.gives in
@@ -63,7 +63,7 @@ into_trimmed-requires-clause-suits c =
     let problem = c.args.problem.now in
     c.in_ok-advance.ensures.suits problem (items_of problem c.take_found.new.self)
     (judges-over problem (Some c.args.sender) [] (items_of problem c.take_found.new.self) c.in_ok-judge.judge
-    c.in_ok-judge.ensures
+    c.in_ok-judge.ensures.is
     (ap (items_of problem) c.take_found.ensures.rest ∙ c.in_ok-advance.ensures.goes_on.items
     ∙ c.new-search.ensures.items ∙ c.in_ok-partial.ensures.range))
 
@@ -72,7 +72,7 @@ into_trimmed-requires-clause-tree c =
     let told = c.in_ok-advance.ensures in
     let it : Reached c.args.problem.now c.args.sender c.args.share c.advance.new.self =
     reached c.args.problem.now c.args.sender c.args.share c.in_ok-advance.field-0 c.in_ok-judge.judge
-    c.new-search.result c.advance.new.self c.in_ok-judge.ensures
+    c.new-search.result c.advance.new.self c.in_ok-judge.ensures.is
     (c.new-search.ensures.items ∙ c.in_ok-partial.ensures.range)
     (c.new-search.ensures.start ∙ c.in_ok-partial.ensures.none) c.new-search.ensures.at told.within told.fewer
     told.gives in (
@@ -89,7 +89,7 @@ returns c =
     let taken = c.take_found.new.self in
     let it : Reached problem sender c.args.share c.advance.new.self =
     reached problem sender c.args.share c.in_ok-advance.field-0 c.in_ok-judge.judge
-    c.new-search.result c.advance.new.self c.in_ok-judge.ensures
+    c.new-search.result c.advance.new.self c.in_ok-judge.ensures.is
     (c.new-search.ensures.items ∙ c.in_ok-partial.ensures.range)
     (c.new-search.ensures.start ∙ c.in_ok-partial.ensures.none) c.new-search.ensures.at told.within told.fewer
     told.gives in
@@ -105,7 +105,7 @@ returns c =
     ∙ c.in_ok-partial.ensures.range)
     (ap start_of c.take_found.ensures.rest ∙ told.goes_on.start ∙ c.new-search.ensures.start
     ∙ c.in_ok-partial.ensures.none) told.bounds
-    (ap (λ v. lower8_of problem v (sent_by problem.items sender)) c.in_ok-judge.ensures.values_are) in
+    (ap (λ v. lower8_of problem v (sent_by problem.items sender)) c.in_ok-judge.ensures.is.values_are) in
     let lemma : Plain → LemmaOf Plain = λ t. record { sender = sender; value = 8 * found.load; tree = t } in
     record {
       end = it.end;
