@@ -117,7 +117,10 @@ module _ (xs ys : List Item) (p q : List ℕ) (first : IsLegal xs p) (rest : IsL
       let e : length p + (k - length p) ≡ k = omega arith in
       subst (λ m. get_or both m 0 ≤ classes_of (take m both)) e
       (in-rest (k - length p) (omega (
-        arith, length-append p (after (classes_of p) q), length-map q (λ l. classes_of p + l))))
+        arith,
+        length-append p (after (classes_of p) q),
+        length-map q (λ l. classes_of p + l),
+      )))
 
   class-stands : (label : ℕ) → (label < classes_of p) ⊎ (classes_of p ≤ label)
       → ClassStands (class_of label both (xs ++ ys))

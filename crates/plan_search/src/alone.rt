@@ -54,7 +54,11 @@ fn timed_cert(alloc: Global, lines: Vec<FrameLine>) -> Cert
 
 /// The order of lowest-priority-first assignment, none exactly where no order has each frame pass. `bit` is
 /// the time of a nominal bit in ticks. The only error is want of memory.
-pub(crate) fn passing_order(alloc: Global, frames: &[Timed], bit: u64) -> Result<Option<Vec<u32>>, Memory>
+pub(crate) fn passing_order(
+    alloc: Global,
+    frames: &[Timed],
+    bit: u64,
+) -> Result<Option<Vec<u32>>, Memory>
     requires few { length frames.now ≤ 128 }
     requires in_range { All IsInRange frames.now }
     requires bit { IsBit frames.now bit }

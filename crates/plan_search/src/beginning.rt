@@ -26,8 +26,8 @@ pub struct Begun {
     pub left: u64,
 }
 
-/// The values of lemmas by sender, in eighths of ticks a common period, 0 where there is none. The only error is want
-/// of memory.
+/// The values of lemmas by sender, in eighths of ticks a common period, 0 where there is none. The only error
+/// is want of memory.
 fn lemma_values(alloc: Global, problem: &Problem, lemmas: &[Lemma]) -> Result<Values, Memory>
     requires { All (λ lemma. lemma.sender < length problem.now.senders) lemmas.now }
     ensures { IfOk result (λ values. values ≡ values_of problem.now (map plain_lemma lemmas.now)) }
@@ -40,15 +40,16 @@ fn lemma_values(alloc: Global, problem: &Problem, lemmas: &[Lemma]) -> Result<Va
     Ok(Values::of(values))
 }
 
-/// Begins a plan within so many branches, from 1 to 1000000: a lemma for each sender whose search ends within its
-/// share, where there are two or more, and the first best grouping. The only error is want of memory.
+/// Begins a plan within so many branches, from 1 to 1000000: a lemma for each sender whose search ends within
+/// its share, where there are two or more, and the first best grouping. The only error is want of memory.
 pub fn begin(alloc: Global, problem: &Problem, branches: u64) -> Result<Begun, Memory>
-    ensures begins { IfOk result (λ begun. Begins problem.now branches (map plain_lemma begun.lemmas.items) begun.left
-        begun.first) }
+    ensures begins { IfOk result (λ begun. Begins problem.now branches
+        (map plain_lemma begun.lemmas.items) begun.left begun.first) }
     ensures values { IfOk result (λ begun. begun.values
         ≡ values_of problem.now (map plain_lemma begun.lemmas.items)) }
     ensures stand { IfOk result (λ begun. LemmasStand problem.now (map plain_lemma begun.lemmas.items)) }
-    ensures trimmed { IfOk result (λ begun. All (LemmaIsTrimmed problem.now) (map plain_lemma begun.lemmas.items)) }
+    ensures trimmed { IfOk result (λ begun. All (LemmaIsTrimmed problem.now)
+        (map plain_lemma begun.lemmas.items)) }
     ensures nodes { IfOk result (λ begun. begun.left + nodes_of_lemmas (map plain_lemma begun.lemmas.items)
         ≡ branches) }
     ensures counted { IfOk result (λ begun. nodes_of_lemmas (map plain_lemma begun.lemmas.items)

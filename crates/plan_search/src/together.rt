@@ -31,7 +31,8 @@ fn put_after(labels: &mut Vec<u32>, own: &[u32], classes: u32) -> Result<(), Mem
     Ok(())
 }
 
-/// The groupings put together: each one's labels follow those of the ones before. The only error is want of memory.
+/// The groupings put together: each one's labels follow those of the ones before. The only error is want of
+/// memory.
 pub(crate) fn put_together(alloc: Global, groupings: &[Labels]) -> Result<Vec<u32>, Memory>
     requires { classes_of (put_together_of 0 groupings.now) < 2 ^ 32 }
     ensures { IfOk result (λ labels. labels.items ≡ put_together_of 0 groupings.now) }

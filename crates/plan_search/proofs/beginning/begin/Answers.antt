@@ -16,9 +16,9 @@ first_best-requires c =
     let problem = c.args.problem.now in
     let same : c.deref.result.now ≡ (turns_of c.in_ok-taken.taken).groupings = c.deref.ensures.value in
     λ all s lt.
-        subst (λ groupings. IsLegal (sent_by problem.items s) (get_or groupings s [])) (sym same)
-        (groupings-legal problem c.in_ok-taken.ensures.problem c.args.branches (turns_of c.in_ok-taken.taken)
-        c.in_ok-taken.ensures.turns (sym (ap (λ (gs : List (List ℕ)). length gs) same) ∙ all) s lt)
+    subst (λ groupings. IsLegal (sent_by problem.items s) (get_or groupings s [])) (sym same)
+    (groupings-legal problem c.in_ok-taken.ensures.problem c.args.branches (turns_of c.in_ok-taken.taken)
+    c.in_ok-taken.ensures.turns (sym (ap (λ (gs : List (List ℕ)). length gs) same) ∙ all) s lt)
 
 pub lemma_values-requires : goal.lemma_values-requires
 lemma_values-requires c =
@@ -57,7 +57,7 @@ returns-clause-counted c =
 pub returns-clause-first_stands : goal.returns-clause-first_stands
 returns-clause-first_stands c =
     first-stands c.args.problem.now (turns_of c.in_ok-taken.taken) c.in_ok-first.first
-    (c.in_ok-first.ensures (turns_of c.in_ok-taken.taken) (sym c.deref.ensures.value))
+    (c.in_ok-first.ensures.first (turns_of c.in_ok-taken.taken) (sym c.deref.ensures.value))
 
 pub returns-clause-fits : goal.returns-clause-fits
 returns-clause-fits c =
@@ -66,6 +66,6 @@ returns-clause-fits c =
     let low = senders-low problem c.in_ok-taken.ensures.problem c.args.branches turns c.in_ok-taken.ensures.turns in
     let at = all-stand problem c.in_ok-taken.ensures.problem c.args.branches turns c.in_ok-taken.ensures.turns in
     λ k d lt. (
-      omega (arith, low k d lt, senders-fit problem c.in_ok-taken.ensures.problem),
+      omega (arith, low k d lt, senders-fit problem c.in_ok-taken.ensures.problem c.in_ok-first.ensures.sorted),
       at.fit k d lt,
     )

@@ -1,7 +1,6 @@
-use Rattle.std.proofs.Common.{◌≡◌, ◌<◌, ◌-◌, ◌∙◌, ℕ, List, drop, length, map, replicate, ap, arith}
+use Rattle.std.proofs.Common.{◌<◌, ◌-◌, ◌∙◌, ℕ, List, drop, length, map, replicate, ap, arith}
 use Rattle.cert_text.specs.PlainTree.{plain_lemma}
 use Rattle.cert_text.specs.declared.parts.Lemma.{Lemma}
-use Rattle.bandwidth_bound.specs.Lemmas.{values_of}
 use Rattle.plan_search.proofs.LemmaValues.{length-values, values-none, values-step}
 use Rattle.plan_search.proofs.beginning.lemma_values.Goals as goal
 

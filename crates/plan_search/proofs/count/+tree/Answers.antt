@@ -1,4 +1,4 @@
-use Rattle.std.proofs.Common.{arith, ap, sym, ◌∙◌, map}
+use Rattle.std.proofs.Common.{arith, ap, ◌∙◌, map}
 use Rattle.std.proofs.lemmas.List.{take_all}
 use Rattle.cert_text.specs.PlainTree.{onto, plain_of}
 use Rattle.cert_text.specs.Trees.{none}

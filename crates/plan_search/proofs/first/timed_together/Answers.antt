@@ -1,5 +1,4 @@
-use Rattle.std.proofs.Common.{◌≡◌, ◌<◌, ℕ, [], get_or, length, sym, ap, subst, ◌∙◌, arith}
-use Rattle.pack_model.specs.Problem.{sent_by}
+use Rattle.std.proofs.Common.{◌≡◌, length, sym, ap, subst, arith}
 use Rattle.pack_model.proofs.Laws.{tests}
 use Rattle.class_frame.specs.Legal.{IsLegal}
 use Rattle.class_frame.proofs.GroupingLaws.{classes_of-le-length}

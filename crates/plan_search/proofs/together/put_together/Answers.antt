@@ -1,4 +1,4 @@
-use Rattle.std.proofs.Common.{◌≡◌, List, ℕ, arith, ap, ◌∙◌, ◌++◌}
+use Rattle.std.proofs.Common.{List, ℕ, arith, ap, ◌∙◌, ◌++◌}
 use Rattle.class_frame.specs.Grouping.{classes_of}
 use Rattle.plan_search.proofs.BySender.{after, put-one, sum-fits, sum-more}
 use Rattle.plan_search.proofs.together.put_together.Goals as goal
