@@ -46,7 +46,7 @@ module _ (frames : List Timed) (order : List ℕ) (bit : ℕ) where
       λ i. record { busy = busy i; queue = queue i }
 
   -- and an order has one list of them
-  one_list : (lines others : List FrameLine) → AreLeastLines frames order bit lines
+  pub one_list : (lines others : List FrameLine) → AreLeastLines frames order bit lines
       → AreLeastLines frames order bit others → lines ≡ others
   one_list lines others least least' =
       let long : length lines ≡ length others = least.count ∙ sym least'.count in

@@ -154,3 +154,13 @@ steps_over problem values items p judge best other made y is same empty load ste
     (subst (λ (xs : List Item). Steps (Finds problem None values) xs p made (begun_with other) y) same
     (subst (λ vs. Steps (Finds problem None vs) items p made (begun_with other) y) is.values_are
     (subst (λ r. Steps (Finds problem r judge.values.items) items p made (begun_with other) y) is.range_is steps))))
+
+-- without an open leaf and with a best load it is the trimmed one
+pub final_is : (problem : Parts) (values : List ℕ) (items : List Item) (p : List ℕ) (best : Option ℕ) (load : ℕ)
+    (is_open : Bool) (t : Plain) → items ≡ problem.items → p ≡ [] → best ≡ Some load → is_open ≡ false
+    → trim items (reaches (lower8_of problem values items) (8 * load)) p t
+    ≡ final_tree problem values best is_open t
+final_is problem values items p best load is_open t same empty is closed =
+    trims_same problem values values items p load t same empty refl
+    ∙ ap (λ o. final_tree problem values (Some load) o t) (sym closed)
+    ∙ ap (λ b. final_tree problem values b is_open t) (sym is)

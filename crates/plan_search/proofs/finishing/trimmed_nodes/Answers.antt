@@ -10,7 +10,7 @@ use Rattle.plan_search.proofs.finishing.trimmed_nodes.Goals as goal
 pub trim-requires-clause-suits : goal.trim-requires-clause-suits
 trim-requires-clause-suits c =
     judges_over c.args.problem.now c.args.values.now (range_of c.args.problem.now c.in_ok-partial.partial)
-    c.in_ok-judge.judge c.in_ok-judge.ensures c.in_ok-partial.ensures.range
+    c.in_ok-judge.judge c.in_ok-judge.ensures.is c.in_ok-partial.ensures.range
 
 pub returns : goal.returns
 returns c = λ t is options.
@@ -19,7 +19,7 @@ returns c = λ t is options.
     let empty : labels_of c.in_ok-partial.partial ≡ [] = c.in_ok-partial.ensures.none in
     ap flat (sym (trims_same c.args.problem.now c.args.values.now c.in_ok-judge.judge.values.items
     (range_of c.args.problem.now c.in_ok-partial.partial) (labels_of c.in_ok-partial.partial) c.args.load t items empty
-    c.in_ok-judge.ensures.values_are))
+    c.in_ok-judge.ensures.is.values_are))
     ∙ c.in_ok-kept.ensures.trimmed t is
     (subst (λ (xs : List Item). HasOptions xs (labels_of c.in_ok-partial.partial) t) (sym items)
     (subst (λ p. HasOptions c.args.problem.now.items p t) (sym empty) options))

@@ -21,13 +21,13 @@ use Rattle.plan_search.proofs.searching.search_all.Goals as goal
 pub advance-requires-clause-suits : goal.advance-requires-clause-suits
 advance-requires-clause-suits c =
     judges_over c.args.problem.now c.args.values.now (items_of c.args.problem.now c.new-search.result)
-    c.in_ok-judge.judge c.in_ok-judge.ensures (c.new-search.ensures.items ∙ c.in_ok-partial.ensures.range)
+    c.in_ok-judge.judge c.in_ok-judge.ensures.is (c.new-search.ensures.items ∙ c.in_ok-partial.ensures.range)
 
 pub final_tree-requires-clause-suits : goal.final_tree-requires-clause-suits
 final_tree-requires-clause-suits c =
     c.in_ok-advance.ensures.suits c.args.problem.now c.args.problem.now.items
     (judges_over c.args.problem.now c.args.values.now c.args.problem.now.items c.in_ok-judge.judge
-    c.in_ok-judge.ensures refl)
+    c.in_ok-judge.ensures.is refl)
 
 pub final_tree-requires-clause-tree : goal.final_tree-requires-clause-tree
 final_tree-requires-clause-tree c =
@@ -52,7 +52,7 @@ final_tree-requires-clause-low c =
     (begun_with (load_found c.args.first)) step.0 =
     steps_over c.args.problem.now c.args.values.now (items_of c.args.problem.now c.new-search.result)
     (start_of c.new-search.result) c.in_ok-judge.judge (load_found c.args.first) c.load_found.result c.in_ok-advance.field-0 step.0
-    c.in_ok-judge.ensures (c.new-search.ensures.items ∙ c.in_ok-partial.ensures.range)
+    c.in_ok-judge.ensures.is (c.new-search.ensures.items ∙ c.in_ok-partial.ensures.range)
     (c.new-search.ensures.start ∙ c.in_ok-partial.ensures.none) c.load_found.ensures step.1 in
     let best : load_found (last_found c.advance.new.self.found c.args.first) ≡ c.take_found.new.self.best =
     last_best c.args.problem.now c.problem_stands.ensures.problem c.problem_stands.ensures.sorted the_shows
@@ -72,7 +72,7 @@ returns c =
     (begun_with (load_found c.args.first)) step.0 =
     steps_over c.args.problem.now c.args.values.now (items_of c.args.problem.now c.new-search.result)
     (start_of c.new-search.result) c.in_ok-judge.judge (load_found c.args.first) c.load_found.result c.in_ok-advance.field-0 step.0
-    c.in_ok-judge.ensures (c.new-search.ensures.items ∙ c.in_ok-partial.ensures.range)
+    c.in_ok-judge.ensures.is (c.new-search.ensures.items ∙ c.in_ok-partial.ensures.range)
     (c.new-search.ensures.start ∙ c.in_ok-partial.ensures.none) c.load_found.ensures step.1 in
     let rest : c.take_found.new.self ≡ record c.advance.new.self { found = None } = c.take_found.ensures.rest in
     search_ends c.args.problem.now c.problem_stands.ensures.problem c.problem_stands.ensures.sorted the_shows
@@ -93,4 +93,4 @@ returns c =
     ∙ final_same c.args.problem.now c.advance.new.judge.values.items c.args.values.now c.advance.new.self.best
     c.advance.new.self.open step.0.tree
     (ap (λ (f : Parts → List Item → List ℕ → ℕ). f c.args.problem.now c.args.problem.now.items) c.in_ok-advance.ensures.bounds
-    ∙ ap (λ vs. lower8_of c.args.problem.now vs c.args.problem.now.items) c.in_ok-judge.ensures.values_are))
+    ∙ ap (λ vs. lower8_of c.args.problem.now vs c.args.problem.now.items) c.in_ok-judge.ensures.is.values_are))
