@@ -103,7 +103,8 @@ module _ (problem : Parts) (stands : IsProblem problem) (sorted : IsSorted probl
   lemmas_fit : All LemmaFits lemmas
   lemmas_fit k d inside =
       let lemma : LemmaOf Plain = get_or lemmas k d in
-      let it : LemmaStands problem lemma = lemmas_stand.each k d inside in (
+      let it : LemmaStands problem lemma = lemmas_stand.each k d inside in
+      (
         omega (arith, it.0, senders_few problem stands sorted, (tests problem stands).few_items),
         standing_fits problem stands (Some lemma.sender) [] (Some lemma.value) false lemma.tree it.1,
       )

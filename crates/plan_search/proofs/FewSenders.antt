@@ -35,7 +35,7 @@ module _ (problem : Parts) (stands : IsProblem problem) (sorted : IsSorted probl
       → (get_or problem.signals k d).sender ≡ get_or problem.senders item.sender []
   member_name item i k j d inside at among is =
       let all = subst (λ (x : Item). All (λ m. (e : Signal) → (get_or problem.signals m e).sender
-      ≡ get_or problem.senders x.sender []) x.members) at (members_sender problem stands i item inside) in
+          ≡ get_or problem.senders x.sender []) x.members) at (members_sender problem stands i item inside) in
       subst (λ m. (get_or problem.signals m d).sender ≡ get_or problem.senders item.sender []) is (all j k among d)
 
   -- the name of each signal's sender is that of an item

@@ -92,12 +92,14 @@ module _ (problem : Parts) (stands : IsProblem problem) (sorted : IsSorted probl
         let before : it.0 ≡ that.0 = turns_one branches n it.0 that.0 it.1 that.1 in
         turn_one n that.0 turns other (subst (λ b. IsTurn problem n b turns) before it.2) that.2
 
+
 -- what shows a grouping is one
 shown_one : (problem : Parts) (found found' : Found) → found ≡ found' → (rows others : List MatrixRow)
     (lines lines' : List FrameLine) → IsShownBy problem found rows lines → IsShownBy problem found' others lines'
     → (rows ≡ others) × (lines ≡ lines')
 shown_one problem found found' same rows others lines lines' it that =
-    let here : IsShownBy problem found' rows lines = subst (λ f. IsShownBy problem f rows lines) same it in (
+    let here : IsShownBy problem found' rows lines = subst (λ f. IsShownBy problem f rows lines) same it in
+    (
       here.matrix ∙ sym that.matrix,
       one_list (frames_at problem found'.labels) found'.order problem.network.nominal_ticks lines lines'
           here.lines_are that.lines_are,
@@ -121,7 +123,7 @@ module _ (problem : Parts) (lemmas : List (LemmaOf Plain)) (best : Option Found)
       let same : it.1.0 ≡ that.1.0 = one_found best it.1.0 that.1.0 it.1.1 that.1.1 in
       let shown = shown_one problem it.1.0 that.1.0 same rows others cert.frames cert'.frames it.1.2 that.1.2 in
       let equal : cert ≡ cert' = it.1.3 ∙ (λ i. best_cert problem (shown.1 i) lemmas (same i).load tree)
-      ∙ sym that.1.3 in
+          ∙ sym that.1.3 in
       λ i. planned.Best (shown.0 i) (equal i)
   ends_one (planned.Best rows cert) (planned.NoSolution cert') it that =
       absurd (not_none best it.1.0 it.1.1 that.1)

@@ -77,7 +77,7 @@ module _ (problem : Parts) (stands : IsProblem problem) (shows : FindingsShow) (
         let closed : has_open y.tree ≡ false =
         subst (λ (x : Searched). has_open x.tree ≡ false) (sym same) (s.fewer (omega (arith, less, t.within))) in
         let none = closed_places (goal_with y.best) [] y.tree
-        (tree_steps problem stands shows range values s.made (begun_with best) y steps begins) closed in
+            (tree_steps problem stands shows range values s.made (begun_with best) y steps begins) closed in
         let some : [] ≡ step.place ∷ step.rest = sym none ∙ step.first in cc
 
     -- a search ends in one way

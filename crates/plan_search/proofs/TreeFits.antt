@@ -59,12 +59,9 @@ pub pieces_fit : (frames : List Timed) (bit hyper : ℕ) (named : List (ℕ × E
     → AreRefuted frames bit hyper named → (length named ≤ 128) × All PieceFits named
 pieces_fit frames bit hyper named few h = (
   omega (arith, few, many),
-  λ k d inside. (
-    omega (arith, few, low k d inside),
-    has_numbers frames (order_below frames (numbers_of named) (get_or named k d).0)
-        (length (others_of (get_or named k d).0 (numbers_of named))) bit hyper (get_or named k d).1
-        (h.refuted k d inside),
-  ),
+  λ k d inside. (omega (arith, few, low k d inside), has_numbers frames (order_below frames (numbers_of named) (get_or named k d).0)
+      (length (others_of (get_or named k d).0 (numbers_of named))) bit hyper (get_or named k d).1
+      (h.refuted k d inside)),
 )
   where
     many : length named ≤ length frames
@@ -110,7 +107,8 @@ module _ (g : Goal) (few : length g.items ≤ 128) (small : All (λ item. item.b
   mutual
     tree_fits : (p : List ℕ) (t : Plain) → IsPartial g.items p → TreeStands g p t → TreeFits (length p) t
     tree_fits p (inner ts) partial h =
-        let many : number_of_trees ts ≡ length (options_of g.items p) = as_many g p (options_of g.items p) ts h.1 in (
+        let many : number_of_trees ts ≡ length (options_of g.items p) = as_many g p (options_of g.items p) ts h.1 in
+        (
           omega (arith, h.0, few),
           omega (arith, many, some_length (options_of g.items p) (some_option g.items p partial h.0 small)),
           omega (arith, many, few_options g.items p partial h.0 few),

@@ -39,7 +39,8 @@ climbs : (high low : ℕ) (lemmas : List (LemmaOf Plain)) → low ≤ get_or (ma
 climbs high low [] at rises below = tt
 climbs high low (l ∷ []) at rises below = (at, All-head (λ m. m.sender < high) l [] below, tt)
 climbs high low (l ∷ m ∷ lemmas) at rises below =
-    let next : l.sender < m.sender = rises 0 (omega arith) in (
+    let next : l.sender < m.sender = rises 0 (omega arith) in
+    (
       at,
       All-head (λ m. m.sender < high) l (m ∷ lemmas) below,
       climbs high (l.sender + 1) (m ∷ lemmas) (omega (arith, next))
@@ -67,7 +68,7 @@ sum_below f high (suc n) low (l ∷ lemmas) e climb each = by (cases_lt low l.se
     by (inr here) below =
         let same : l.sender ≡ low = omega (arith, here, climb.0) in
         let head : nodes_of l.tree ≤ f low = rw (← same)
-        (All-head (λ l. nodes_of l.tree ≤ f l.sender) l lemmas each) in
+            (All-head (λ l. nodes_of l.tree ≤ f l.sender) l lemmas each) in
         omega (
           arith,
           head,

@@ -32,7 +32,8 @@ final_tree-requires-clause-suits c =
 pub final_tree-requires-clause-tree : goal.final_tree-requires-clause-tree
 final_tree-requires-clause-tree c =
     let step = c.in_ok-advance.ensures.gives (record { tree = left; best = c.load_found.result; found = None })
-    c.new-search.ensures.at in (
+        c.new-search.ensures.at in
+    (
       record step.0 { found = None },
       taken_at c.args.problem.now c.advance.new.self c.take_found.new.self step.0 c.take_found.ensures.rest step.2,
     )
@@ -47,7 +48,7 @@ the_shows problem stands range values best p partial = shows problem stands rang
 pub final_tree-requires-clause-low : goal.final_tree-requires-clause-low
 final_tree-requires-clause-low c =
     let step = c.in_ok-advance.ensures.gives (record { tree = left; best = c.load_found.result; found = None })
-    c.new-search.ensures.at in
+        c.new-search.ensures.at in
     let steps : Steps (Finds c.args.problem.now None c.args.values.now) c.args.problem.now.items [] c.in_ok-advance.field-0
     (begun_with (load_found c.args.first)) step.0 =
     steps_over c.args.problem.now c.args.values.now (items_of c.args.problem.now c.new-search.result)
@@ -67,7 +68,7 @@ final_tree-requires-clause-low c =
 pub returns : goal.returns
 returns c =
     let step = c.in_ok-advance.ensures.gives (record { tree = left; best = c.load_found.result; found = None })
-    c.new-search.ensures.at in
+        c.new-search.ensures.at in
     let steps : Steps (Finds c.args.problem.now None c.args.values.now) c.args.problem.now.items [] c.in_ok-advance.field-0
     (begun_with (load_found c.args.first)) step.0 =
     steps_over c.args.problem.now c.args.values.now (items_of c.args.problem.now c.new-search.result)
