@@ -1,9 +1,8 @@
 -- What a plan ends with is accepted, trimmed, and has a text.
-use Rattle.std.proofs.Common.{◌≡◌, ℕ, zero, ◌*◌, ◌+◌, ◌≤◌, Bool, true, false, List, [], ◌∷◌, length, get_or, map, All, Option, None, Some, IfSome, refl, sym, ap, ◌∙◌, subst, arith}
+use Rattle.std.proofs.Common.{◌≡◌, ℕ, ◌*◌, ◌≤◌, true, false, List, [], ◌∷◌, length, get_or, All, Option, None, Some, IfSome, refl, sym, ap, ◌∙◌, subst, arith}
 use Rattle.std.proofs.lemmas.List.Elements.{All-nil}
 use Rattle.pack_model.specs.Problem.{Parts, IsProblem, IsSorted}
 use Rattle.pack_model.proofs.Laws.{tests}
-use Rattle.response_test.specs.declared.evidence.Evidence.{Evidence}
 use Rattle.class_frame.specs.Classes.{load_of}
 use Rattle.matrix_rows.specs.declared.matrix.MatrixRow.{MatrixRow}
 use Rattle.matrix_text.specs.Frames.{grouping_of}
@@ -13,23 +12,22 @@ use Rattle.cert_text.specs.declared.parts.Kind.TheVariants.{KindBetween}
 use Rattle.cert_text.specs.Parts.{CertParts, LemmaOf}
 use Rattle.cert_text.specs.Trees.{Plain}
 use Rattle.cert_text.specs.Written.{CertFits, HasRoom, LemmaFits, MainFits}
-use Rattle.bandwidth_bound.specs.Bounds.{Reaches}
 use Rattle.bandwidth_bound.specs.Goals.{FailsIn, eighths, main_goal}
 use Rattle.bandwidth_bound.specs.Lemmas.{LemmaStands, LemmasStand, values_of}
 use Rattle.bandwidth_bound.specs.Prices.{lower8_of}
-use Rattle.bandwidth_bound.specs.Rule.{Accepts, MatrixOfKind, TimingOfKind, TreesStand, best_of, open_of}
+use Rattle.bandwidth_bound.specs.Rule.{Accepts, MatrixOfKind, TimingOfKind, best_of}
 use Rattle.bandwidth_bound.specs.Timing.{TimingStands}
 use Rattle.bandwidth_bound.specs.Trees.{Goal, TreeStands, open_places}
 use Rattle.tree_search.specs.declared.finding.Found.{Found}
 use Rattle.tree_search.specs.Open.{has_open}
 use Rattle.tree_search.specs.Trim.{reaches}
-use Rattle.tree_search.proofs.Counts.{is_trimmed, open-trim}
+use Rattle.tree_search.proofs.Counts.{is_trimmed}
 use Rattle.tree_search.proofs.Firsts.{has_open-is, is_more}
 use Rattle.tree_search.proofs.Standing.{stands-along, stands-closed, stands-trim}
 use Rattle.plan_search.specs.Begin.{FoundStands}
 use Rattle.plan_search.specs.declared.planned.Planned.{Planned}
 use Rattle.plan_search.specs.declared.planned.Planned.TheVariants as planned
-use Rattle.plan_search.specs.Plan.{Ends, IsShownBy, IsTrimmedPlan, MainIsTrimmed, best_cert, cert_of_plan, judged_plan, load_found, none_cert, open_cert, verdict_of_plan}
+use Rattle.plan_search.specs.Plan.{Ends, IsShownBy, IsTrimmedPlan, best_cert, cert_of_plan, judged_plan, load_found, none_cert, open_cert, verdict_of_plan}
 use Rattle.plan_search.specs.Searches.{IsTrimmedIn, trimmed, LemmaIsTrimmed}
 use Rattle.plan_search.proofs.FewSenders.{senders_few}
 use Rattle.plan_search.proofs.Founds.{best, grouping, lines_have_room, placed, timing}
@@ -103,8 +101,7 @@ module _ (problem : Parts) (stands : IsProblem problem) (sorted : IsSorted probl
   lemmas_fit : All LemmaFits lemmas
   lemmas_fit k d inside =
       let lemma : LemmaOf Plain = get_or lemmas k d in
-      let it : LemmaStands problem lemma = lemmas_stand.each k d inside in
-      (
+      let it : LemmaStands problem lemma = lemmas_stand.each k d inside in (
         omega (arith, it.0, senders_few problem stands sorted, (tests problem stands).few_items),
         standing_fits problem stands (Some lemma.sender) [] (Some lemma.value) false lemma.tree it.1,
       )

@@ -1,5 +1,5 @@
 -- There are at most as many senders as items.
-use Rattle.std.proofs.Common.{◌≡◌, ℕ, ◌<◌, ◌≤◌, List, [], ◌∷◌, length, get_or, map, All, Any, Bool, true, false, refl, sym, ap, ◌∙◌, subst, arith}
+use Rattle.std.proofs.Common.{◌≡◌, ℕ, ◌<◌, ◌≤◌, List, [], length, get_or, map, All, Bool, true, false, refl, sym, ap, ◌∙◌, subst, arith}
 use Rattle.std.specs.Cmp.Lexicographic.{nat_list_eq_equiv}
 use Rattle.std.specs.List.{list_any}
 use Rattle.std.specs.Str.{bytes_eq}
@@ -35,7 +35,7 @@ module _ (problem : Parts) (stands : IsProblem problem) (sorted : IsSorted probl
       → (get_or problem.signals k d).sender ≡ get_or problem.senders item.sender []
   member_name item i k j d inside at among is =
       let all = subst (λ (x : Item). All (λ m. (e : Signal) → (get_or problem.signals m e).sender
-          ≡ get_or problem.senders x.sender []) x.members) at (members_sender problem stands i item inside) in
+      ≡ get_or problem.senders x.sender []) x.members) at (members_sender problem stands i item inside) in
       subst (λ m. (get_or problem.signals m d).sender ≡ get_or problem.senders item.sender []) is (all j k among d)
 
   -- the name of each signal's sender is that of an item

@@ -1,6 +1,5 @@
 -- The first best grouping.
-use Rattle.std.proofs.Common.{◌≡◌, ℕ, ◌+◌, ◌*◌, ◌/◌, List, [], ◌∷◌, length, map, sum_by, Option, Some, None, IfSome, Bool, true, false, cond, nat_lt, refl, sym, ap, subst, ◌∙◌}
-use Rattle.std.specs.List.{range_with_len}
+use Rattle.std.proofs.Common.{◌≡◌, ℕ, ◌+◌, ◌*◌, ◌/◌, List, [], ◌∷◌, map, sum_by, Option, Some, None, IfSome, Bool, true, false, cond, nat_lt, refl, sym, ap, subst, ◌∙◌}
 use Rattle.std.proofs.lemmas.List.Sums.{sum_by-cons}
 use Rattle.pack_model.specs.Problem.{Parts}
 use Rattle.busy_period.specs.declared.timed.Timed.{Timed}
@@ -8,12 +7,11 @@ use Rattle.response_test.specs.Order.{OrderPasses}
 use Rattle.priority_assign.specs.Lowest.{IsLowestFirst}
 use Rattle.class_frame.specs.Classes.{frames_of_classes, load_of}
 use Rattle.class_frame.specs.Frame.{load_of_items, timed_of_items}
-use Rattle.class_frame.specs.Grouping.{class_of, classes_of}
+use Rattle.class_frame.specs.Grouping.{class_of}
 use Rattle.class_frame.specs.Legal.{IsLegal}
-use Rattle.bandwidth_bound.specs.Solvable.{Solvable}
 use Rattle.tree_search.specs.declared.finding.Found.{Found}
 use Rattle.plan_search.specs.Alone.{labels_alone}
-use Rattle.plan_search.specs.Begin.{FoundStands, IsFirst, IsFound, IsTimed, IsTimedIf, Turns, better_of, grouping_by_sender}
+use Rattle.plan_search.specs.Begin.{FoundStands, IsFirst, IsTimed, IsTimedIf, Turns, better_of, grouping_by_sender}
 
 -- the load of a grouping is that of its classes as frames
 pub loads-sum : (problem : Parts) (labels ls : List ℕ)

@@ -1,13 +1,12 @@
 -- A problem has one plan within so many branches.
-use Rattle.std.proofs.Common.{◌≡◌, ℕ, zero, suc, ◌+◌, ◌-◌, ◌*◌, ◌<◌, ◌≤◌, List, [], ◌∷◌, ◌++◌, length, Bool, true, false, Option, None, Some, cond, refl, sym, ap, ◌∙◌, subst, arith}
+use Rattle.std.proofs.Common.{◌≡◌, ℕ, zero, suc, ◌-◌, List, [], length, Bool, true, false, Option, None, Some, refl, sym, ap, ◌∙◌, subst}
 use Rattle.pack_model.specs.Problem.{Parts, IsProblem, IsSorted}
 use Rattle.priority_assign.specs.Lowest.{IsLowestFirst}
 use Rattle.priority_assign.proofs.OneOrder.{one_order}
 use Rattle.class_frame.specs.Legal.{IsLegal}
 use Rattle.matrix_rows.specs.declared.matrix.MatrixRow.{MatrixRow}
-use Rattle.matrix_text.specs.LaidOut.{rows_of}
 use Rattle.cert_text.specs.declared.parts.FrameLine.{FrameLine}
-use Rattle.cert_text.specs.Parts.{CertParts, LemmaOf}
+use Rattle.cert_text.specs.Parts.{LemmaOf}
 use Rattle.cert_text.specs.Trees.{Plain}
 use Rattle.bandwidth_bound.specs.Lemmas.{values_of}
 use Rattle.search_judge.specs.Findings.{frames_at}
@@ -18,7 +17,7 @@ use Rattle.tree_search.specs.Step.{Searched}
 use Rattle.plan_search.specs.declared.planned.Planned.{Planned}
 use Rattle.plan_search.specs.declared.planned.Planned.TheVariants as planned
 use Rattle.plan_search.specs.Alone.{labels_alone}
-use Rattle.plan_search.specs.Begin.{AreTurns, Begins, IsFirst, IsFound, IsTimed, IsTimedIf, IsTurn, Turns, after_turn, better_of, grouping_by_sender, lemma_of, no_turns, share_of, turn_count}
+use Rattle.plan_search.specs.Begin.{AreTurns, IsFirst, IsTimed, IsTimedIf, IsTurn, Turns, after_turn, better_of, grouping_by_sender, lemma_of, share_of, turn_count}
 use Rattle.plan_search.specs.Searches.{IsSearch}
 use Rattle.plan_search.specs.Plan.{Ends, IsPlanOf, IsShownBy, best_cert, last_found, load_found, open_cert}
 use Rattle.plan_search.proofs.Founds.{frames_in_range}
@@ -92,14 +91,12 @@ module _ (problem : Parts) (stands : IsProblem problem) (sorted : IsSorted probl
         let before : it.0 ≡ that.0 = turns_one branches n it.0 that.0 it.1 that.1 in
         turn_one n that.0 turns other (subst (λ b. IsTurn problem n b turns) before it.2) that.2
 
-
 -- what shows a grouping is one
 shown_one : (problem : Parts) (found found' : Found) → found ≡ found' → (rows others : List MatrixRow)
     (lines lines' : List FrameLine) → IsShownBy problem found rows lines → IsShownBy problem found' others lines'
     → (rows ≡ others) × (lines ≡ lines')
 shown_one problem found found' same rows others lines lines' it that =
-    let here : IsShownBy problem found' rows lines = subst (λ f. IsShownBy problem f rows lines) same it in
-    (
+    let here : IsShownBy problem found' rows lines = subst (λ f. IsShownBy problem f rows lines) same it in (
       here.matrix ∙ sym that.matrix,
       one_list (frames_at problem found'.labels) found'.order problem.network.nominal_ticks lines lines'
           here.lines_are that.lines_are,
@@ -123,7 +120,7 @@ module _ (problem : Parts) (lemmas : List (LemmaOf Plain)) (best : Option Found)
       let same : it.1.0 ≡ that.1.0 = one_found best it.1.0 that.1.0 it.1.1 that.1.1 in
       let shown = shown_one problem it.1.0 that.1.0 same rows others cert.frames cert'.frames it.1.2 that.1.2 in
       let equal : cert ≡ cert' = it.1.3 ∙ (λ i. best_cert problem (shown.1 i) lemmas (same i).load tree)
-          ∙ sym that.1.3 in
+      ∙ sym that.1.3 in
       λ i. planned.Best (shown.0 i) (equal i)
   ends_one (planned.Best rows cert) (planned.NoSolution cert') it that =
       absurd (not_none best it.1.0 it.1.1 that.1)

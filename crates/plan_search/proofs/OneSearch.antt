@@ -1,23 +1,18 @@
 -- A search within so many steps ends in one way.
-use Rattle.std.proofs.Common.{◌≡◌, ℕ, zero, suc, ◌<◌, ◌≤◌, ◌⊎◌, inl, inr, List, [], ◌∷◌, All, Bool, true, false, Option, refl, sym, ap, ◌∙◌, subst, arith}
+use Rattle.std.proofs.Common.{◌≡◌, ℕ, zero, suc, ◌<◌, ◌≤◌, ◌⊎◌, inl, inr, List, [], ◌∷◌, true, false, Option, refl, sym, ◌∙◌, subst, arith}
 use Rattle.std.proofs.lemmas.Bool.{cases_eq, cases_lt}
-use Rattle.std.proofs.lemmas.List.Elements.{All-head}
-use Rattle.pack_model.specs.declared.item.Item.{Item}
 use Rattle.pack_model.specs.Problem.{Parts, IsProblem}
-use Rattle.cert_text.specs.Trees.{Plain}
 use Rattle.grouping_tree.specs.Grouped.{items_in}
 use Rattle.grouping_tree.specs.Partial.{IsPartial}
-use Rattle.grouping_tree.proofs.Used.{partial-none}
 use Rattle.bandwidth_bound.specs.Goals.{eighths, range_goal}
-use Rattle.bandwidth_bound.specs.Trees.{Goal, TreeStands, open_places}
+use Rattle.bandwidth_bound.specs.Trees.{Goal, TreeStands}
 use Rattle.search_judge.specs.Findings.{Finds}
 use Rattle.search_judge.specs.Laws.{FindingsShow, OneIsFound}
-use Rattle.tree_search.specs.declared.finding.Finding.{Finding}
 use Rattle.tree_search.specs.Open.{has_open}
 use Rattle.tree_search.specs.Step.{Searched, Step, Steps, after}
 use Rattle.plan_search.specs.Searches.{IsSearch, begun_with}
 use Rattle.plan_search.proofs.Ended.{closed_places}
-use Rattle.plan_search.proofs.SearchLaws.{place_partial, tree_step, tree_steps}
+use Rattle.plan_search.proofs.SearchLaws.{place_partial, tree_steps}
 
 module _ (problem : Parts) (stands : IsProblem problem) (shows : FindingsShow) (one : OneIsFound)
     (range : Option ℕ) (values : List ℕ) where
@@ -77,7 +72,7 @@ module _ (problem : Parts) (stands : IsProblem problem) (shows : FindingsShow) (
         let closed : has_open y.tree ≡ false =
         subst (λ (x : Searched). has_open x.tree ≡ false) (sym same) (s.fewer (omega (arith, less, t.within))) in
         let none = closed_places (goal_with y.best) [] y.tree
-            (tree_steps problem stands shows range values s.made (begun_with best) y steps begins) closed in
+        (tree_steps problem stands shows range values s.made (begun_with best) y steps begins) closed in
         let some : [] ≡ step.place ∷ step.rest = sym none ∙ step.first in cc
 
     -- a search ends in one way

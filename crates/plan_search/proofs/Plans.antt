@@ -1,5 +1,5 @@
 -- A plan, from how it begins, what its search ends with, and what is made of that.
-use Rattle.std.proofs.Common.{◌≡◌, ℕ, ◌+◌, List, All, Option, Bool, true, false, None, Some, refl, sym, ap, ◌∙◌, subst}
+use Rattle.std.proofs.Common.{◌≡◌, ℕ, ◌+◌, List, All, Option, Bool, true, false, None, Some, refl, subst}
 use Rattle.pack_model.specs.Problem.{Parts, IsProblem, IsSorted}
 use Rattle.matrix_rows.specs.declared.matrix.MatrixRow.{MatrixRow}
 use Rattle.cert_text.specs.declared.parts.FrameLine.{FrameLine}
@@ -15,7 +15,7 @@ use Rattle.plan_search.specs.declared.planned.Planned.{Planned}
 use Rattle.plan_search.specs.declared.searching.Ended.{Ended}
 use Rattle.plan_search.specs.Begin.{Begins}
 use Rattle.plan_search.specs.Ending.{IsEnded, final_tree, plan_with, plan_without}
-use Rattle.plan_search.specs.Plan.{Ends, IsPlanOf, IsShownBy, IsTrimmedPlan, IsWithin, best_cert, cert_of_plan, judged_plan, load_found, verdict_of_plan}
+use Rattle.plan_search.specs.Plan.{Ends, IsPlanOf, IsShownBy, IsTrimmedPlan, IsWithin, cert_of_plan, judged_plan, load_found, verdict_of_plan}
 use Rattle.plan_search.specs.Searches.{nodes_of_lemmas, LemmaIsTrimmed}
 use Rattle.plan_search.proofs.Ended.{ends_accepted, ends_fits, ends_trimmed}
 use Rattle.plan_search.proofs.Within.{ends_within}

@@ -1,5 +1,5 @@
 -- What a search over all items ends with, from what the search holds.
-use Rattle.std.proofs.Common.{◌≡◌, ℕ, ◌*◌, ◌<◌, ◌≤◌, ◌^◌, List, [], ◌∷◌, length, Bool, true, false, Option, None, Some, IfSome, refl, sym, ap, ◌∙◌, subst, arith}
+use Rattle.std.proofs.Common.{◌≡◌, ℕ, ◌*◌, ◌<◌, ◌≤◌, ◌^◌, List, [], length, Bool, true, false, Option, None, Some, IfSome, refl, sym, ap, ◌∙◌, subst, arith}
 use Rattle.std.proofs.lemmas.List.Elements.{All-contains_itself}
 use Rattle.pack_model.specs.declared.item.Item.{Item}
 use Rattle.pack_model.specs.Problem.{Parts, IsProblem, IsSorted}
@@ -51,8 +51,8 @@ pub found_fits : (problem : Parts) → IsProblem problem → LoadsFit → (found
 found_fits problem stands fit None is = tt
 found_fits problem stands fit (Some found) is =
     let low = fit problem stands problem.items (All-contains_itself problem.items) found.labels
-        (legal-partial problem.items found.labels is.legal)
-        (omega (arith, is.legal.grouping.each, (tests problem stands).few_items)) in
+    (legal-partial problem.items found.labels is.legal)
+    (omega (arith, is.legal.grouping.each, (tests problem stands).few_items)) in
     rw is.load_is low
 
 module _ (problem : Parts) (stands : IsProblem problem) (sorted : IsSorted problem.signals problem.items)

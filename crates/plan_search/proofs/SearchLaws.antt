@@ -1,9 +1,7 @@
 -- A search over all items: its tree stands, and what it found is its best.
-use Rattle.std.proofs.Common.{◌≡◌, ℕ, zero, suc, ◌+◌, ◌*◌, ◌<◌, ◌≤◌, List, [], ◌∷◌, ◌++◌, length, get_or, All, Bool, true, false, Option, None, Some, IfSome, refl, sym, ap, ◌∙◌, subst, arith}
+use Rattle.std.proofs.Common.{◌≡◌, ℕ, zero, suc, List, [], ◌∷◌, ◌++◌, All, true, Option, None, IfSome, refl, sym, subst}
 use Rattle.std.proofs.lemmas.List.Elements.{All-append, All-cons, All-head, All-nil, All-tail}
-use Rattle.pack_model.specs.declared.item.Item.{Item}
 use Rattle.pack_model.specs.Problem.{Parts, IsProblem, IsSorted}
-use Rattle.class_frame.specs.Classes.{load_of}
 use Rattle.class_frame.specs.Legal.{IsLegal}
 use Rattle.cert_text.specs.Trees.{Plain, Plains, bound, fail, inner, left, more, none}
 use Rattle.grouping_tree.specs.Grouped.{items_in}
@@ -13,14 +11,13 @@ use Rattle.grouping_tree.proofs.Puts.{options-legal}
 use Rattle.grouping_tree.proofs.Used.{partial-none}
 use Rattle.bandwidth_bound.specs.Goals.{FailsIn, eighths, main_goal, range_goal}
 use Rattle.bandwidth_bound.specs.Prices.{lower8_of}
-use Rattle.bandwidth_bound.specs.Solvable.{Solvable}
 use Rattle.bandwidth_bound.specs.Trees.{EachStands, Goal, TreeStands, open_places, open_places_each}
 use Rattle.search_judge.specs.Findings.{Finds}
 use Rattle.search_judge.specs.Laws.{FindingsShow}
 use Rattle.tree_search.specs.declared.finding.Finding.{Finding}
 use Rattle.tree_search.specs.declared.finding.Finding.TheVariants.{Bounded, Failed, Complete, Parted}
 use Rattle.tree_search.specs.declared.finding.Found.{Found}
-use Rattle.tree_search.specs.Step.{Searched, Step, Steps, after, best_after, found_after}
+use Rattle.tree_search.specs.Step.{Searched, Step, Steps, best_after, found_after}
 use Rattle.tree_search.proofs.Standing.{step-stands}
 use Rattle.plan_search.specs.Begin.{FoundStands}
 use Rattle.plan_search.specs.Plan.{last_found, load_found}

@@ -1,5 +1,5 @@
 -- The search over one sender's items: what its tree shows, what it found, and how many nodes its tree has.
-use Rattle.std.proofs.Common.{◌≡◌, ℕ, zero, suc, ◌+◌, ◌-◌, ◌*◌, ◌^◌, ◌<◌, ◌≤◌, ◌⊎◌, inl, inr, ◌||◌, Bool, true, false, cond, List, [], ◌∷◌, ◌++◌, length, filter, All, Option, Some, None, min, count_by, nat_eq, nat_lt, Contains, refl, sym, ap, subst, ◌∙◌, arith}
+use Rattle.std.proofs.Common.{◌≡◌, ℕ, zero, suc, ◌+◌, ◌*◌, ◌^◌, ◌<◌, ◌≤◌, ◌⊎◌, inl, inr, ◌||◌, Bool, true, false, cond, List, [], ◌∷◌, ◌++◌, length, filter, All, Option, Some, None, nat_eq, nat_lt, Contains, refl, sym, ap, subst, ◌∙◌, arith}
 use Rattle.std.specs.List.{range_with_len}
 use Rattle.std.proofs.lemmas.Bool.{cases_lt}
 use Rattle.std.proofs.lemmas.List.{length_push}
@@ -32,7 +32,7 @@ use Rattle.tree_search.specs.Count.{place_count}
 use Rattle.tree_search.specs.Open.{HasOptions, any_goal, any_open, has_open, lefts, nodes_in, nodes_of, put_first, put_first_in}
 use Rattle.tree_search.specs.Sound.{IsNoWorse, Shown, goal_of}
 use Rattle.tree_search.specs.Step.{Searched, Step, Steps, best_after, found_after, leaf_after}
-use Rattle.tree_search.specs.Trim.{reaches, trim}
+use Rattle.tree_search.specs.Trim.{reaches}
 use Rattle.tree_search.proofs.Counts.{is_trimmed, nodes-le_places, nodes-trim}
 use Rattle.tree_search.proofs.Firsts.{has_open-is, is_more}
 use Rattle.tree_search.proofs.Standing.{has_options, stands-closed, stands-trim, step-stands}

@@ -1,11 +1,10 @@
 -- What a sender's search within its share came to, from what the search holds.
-use Rattle.std.proofs.Common.{◌≡◌, ℕ, ◌*◌, ◌<◌, ◌≤◌, Bool, true, false, List, [], ◌∷◌, Option, Some, None, refl, sym, ap, subst, ◌∙◌}
+use Rattle.std.proofs.Common.{◌≡◌, ℕ, ◌<◌, ◌≤◌, Bool, true, false, List, [], Option, Some, None, refl, sym, ap, subst, ◌∙◌}
 use Rattle.pack_model.specs.declared.item.Item.{Item}
 use Rattle.pack_model.specs.Problem.{Parts, sent_by}
 use Rattle.grouping_tree.specs.Grouped.{items_in, labels_of}
 use Rattle.cert_text.specs.Trees.{Plain}
 use Rattle.bandwidth_bound.specs.Prices.{lower8_of}
-use Rattle.tree_search.specs.declared.finding.Found.{Found}
 use Rattle.tree_search.specs.declared.search.Search.{Search}
 use Rattle.tree_search.specs.Open.{any_goal, has_open}
 use Rattle.tree_search.specs.Shown.{IsAt, agenda, items_of, start_of}

@@ -1,6 +1,6 @@
 -- A tree that stands over the groupings of a problem's items has a text.
-use Rattle.std.proofs.Common.{◌≡◌, ℕ, zero, suc, ◌+◌, ◌<◌, ◌≤◌, List, [], ◌∷◌, ◌++◌, length, get_or, All, Option, None, Some, Bool, map, filter, refl, sym, ap, ◌∙◌, subst, add-one, arith}
-use Rattle.std.specs.Prelude.{nat_eq, nat_lt}
+use Rattle.std.proofs.Common.{◌≡◌, ℕ, zero, suc, ◌+◌, ◌<◌, ◌≤◌, List, [], ◌∷◌, ◌++◌, length, get_or, All, Option, None, Some, Bool, refl, ap, ◌∙◌, subst, add-one, arith}
+use Rattle.std.specs.Prelude.{nat_eq}
 use Rattle.std.specs.List.{range_with_len}
 use Rattle.std.specs.List.Sorted.{IsStrictlyIncreasing}
 use Rattle.std.proofs.lemmas.Bool.{lt-ltb}
@@ -9,7 +9,7 @@ use Rattle.std.proofs.lemmas.List.Elements.{All-filter, All-head, All-tail}
 use Rattle.std.proofs.lemmas.List.FromFn.{length-map-range_with_len, length-range_with_len}
 use Rattle.std.proofs.lemmas.List.Sums.{count_by-le-length, length-filter}
 use Rattle.pack_model.specs.declared.item.Item.{Item}
-use Rattle.pack_model.specs.Problem.{Parts, IsProblem, sent_by}
+use Rattle.pack_model.specs.Problem.{Parts, IsProblem}
 use Rattle.pack_model.proofs.ItemFacts.{small_items}
 use Rattle.pack_model.proofs.Laws.{tests}
 use Rattle.busy_period.specs.declared.timed.Timed.{Timed}
@@ -59,9 +59,12 @@ pub pieces_fit : (frames : List Timed) (bit hyper : ℕ) (named : List (ℕ × E
     → AreRefuted frames bit hyper named → (length named ≤ 128) × All PieceFits named
 pieces_fit frames bit hyper named few h = (
   omega (arith, few, many),
-  λ k d inside. (omega (arith, few, low k d inside), has_numbers frames (order_below frames (numbers_of named) (get_or named k d).0)
-      (length (others_of (get_or named k d).0 (numbers_of named))) bit hyper (get_or named k d).1
-      (h.refuted k d inside)),
+  λ k d inside. (
+    omega (arith, few, low k d inside),
+    has_numbers frames (order_below frames (numbers_of named) (get_or named k d).0)
+        (length (others_of (get_or named k d).0 (numbers_of named))) bit hyper (get_or named k d).1
+        (h.refuted k d inside),
+  ),
 )
   where
     many : length named ≤ length frames
@@ -107,8 +110,7 @@ module _ (g : Goal) (few : length g.items ≤ 128) (small : All (λ item. item.b
   mutual
     tree_fits : (p : List ℕ) (t : Plain) → IsPartial g.items p → TreeStands g p t → TreeFits (length p) t
     tree_fits p (inner ts) partial h =
-        let many : number_of_trees ts ≡ length (options_of g.items p) = as_many g p (options_of g.items p) ts h.1 in
-        (
+        let many : number_of_trees ts ≡ length (options_of g.items p) = as_many g p (options_of g.items p) ts h.1 in (
           omega (arith, h.0, few),
           omega (arith, many, some_length (options_of g.items p) (some_option g.items p partial h.0 small)),
           omega (arith, many, few_options g.items p partial h.0 few),

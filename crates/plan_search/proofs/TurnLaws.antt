@@ -1,10 +1,10 @@
 -- What the turns of senders leave.
-use Rattle.std.proofs.Common.{◌≡◌, ℕ, zero, suc, ◌+◌, ◌-◌, ◌*◌, ◌/◌, ◌^◌, ◌<◌, ◌≤◌, ◌⊎◌, inl, inr, Bool, true, false, List, [], ◌∷◌, ◌++◌, length, get_or, map, All, Option, Some, None, sum_by, refl, sym, ap, subst, ◌∙◌, arith, length-append}
+use Rattle.std.proofs.Common.{◌≡◌, ℕ, zero, suc, ◌+◌, ◌-◌, ◌<◌, ◌≤◌, ◌⊎◌, inl, inr, Bool, true, false, List, [], ◌∷◌, ◌++◌, length, get_or, map, All, sum_by, refl, sym, ap, subst, ◌∙◌, arith, length-append}
 use Rattle.std.specs.List.{range_with_len}
 use Rattle.std.specs.List.Sorted.{IsStrictlyIncreasing}
 use Rattle.std.proofs.Math.Nat.{div-le_self}
 use Rattle.std.proofs.lemmas.Bool.{cases_lt}
-use Rattle.std.proofs.lemmas.List.{get_or-append-add, length-map, map-append}
+use Rattle.std.proofs.lemmas.List.{get_or-append-add, map-append}
 use Rattle.std.proofs.lemmas.List.Elements.{All-map, All-nil, All-push, All-weaker}
 use Rattle.std.proofs.lemmas.List.Sums.{sum_by-append, sum_by-cons}
 use Rattle.pack_model.specs.Problem.{Parts, IsProblem, sent_by}
@@ -15,7 +15,7 @@ use Rattle.grouping_tree.proofs.Classes.{get_or-front}
 use Rattle.cert_text.specs.Parts.{LemmaOf}
 use Rattle.cert_text.specs.Trees.{Plain}
 use Rattle.cert_text.specs.Written.{TreeFits}
-use Rattle.bandwidth_bound.specs.Lemmas.{LemmaStands, LemmasStand}
+use Rattle.bandwidth_bound.specs.Lemmas.{LemmaStands}
 use Rattle.bandwidth_bound.proofs.PriceSplits.{range-split}
 use Rattle.tree_search.specs.Open.{has_open, nodes_of}
 use Rattle.plan_search.specs.Begin.{AreTurns, IsTurn, Turns, after_turn, lemma_of, no_turns, share_of}

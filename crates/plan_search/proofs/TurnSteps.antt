@@ -1,8 +1,8 @@
 -- A sender's turn in the code.
-use Rattle.std.proofs.Common.{◌≡◌, ℕ, suc, ◌+◌, ◌-◌, ◌/◌, ◌<◌, ◌≤◌, Bool, true, false, cond, length, List, [], Option, Some, None, refl, sym, ap, subst, ◌∙◌, arith}
+use Rattle.std.proofs.Common.{◌≡◌, ℕ, suc, ◌+◌, ◌-◌, ◌<◌, ◌≤◌, Bool, true, false, cond, length, [], Option, Some, None, refl, ap, subst, ◌∙◌, arith}
 use Rattle.pack_model.specs.Problem.{Parts, IsProblem}
 use Rattle.cert_text.specs.Parts.{LemmaOf}
-use Rattle.cert_text.specs.PlainTree.{plain_lemma, plain_of}
+use Rattle.cert_text.specs.PlainTree.{plain_of}
 use Rattle.cert_text.specs.Trees.{Plain}
 use Rattle.tree_search.specs.Open.{has_open, nodes_of}
 use Rattle.tree_search.specs.Step.{Searched}

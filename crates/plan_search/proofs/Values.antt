@@ -1,5 +1,5 @@
 -- The value of the lemma of a sender.
-use Rattle.std.proofs.Common.{◌≡◌, ℕ, List, ◌∷◌, Bool, true, false, cond, eq-eqb, ap}
+use Rattle.std.proofs.Common.{◌≡◌, ℕ, List, ◌∷◌, cond, eq-eqb, ap}
 use Rattle.std.proofs.lemmas.Bool.{ne_eqb}
 use Rattle.cert_text.specs.Parts.{LemmaOf}
 use Rattle.cert_text.specs.Trees.{Plain}

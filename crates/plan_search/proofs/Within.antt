@@ -1,15 +1,15 @@
 -- Where the branches are spent, the trees have exactly so many nodes, and fewer than there are partial groupings.
-use Rattle.std.proofs.Common.{◌≡◌, ℕ, zero, suc, ◌+◌, ◌<◌, ◌≤◌, ◌⊎◌, inl, inr, List, [], ◌∷◌, length, get_or, map, All, sum_by, Option, None, Some, Bool, true, false, refl, sym, ap, ◌∙◌, subst, add-one, arith}
+use Rattle.std.proofs.Common.{◌≡◌, ℕ, zero, suc, ◌+◌, ◌<◌, ◌≤◌, ◌⊎◌, inl, inr, List, [], ◌∷◌, length, get_or, map, All, sum_by, Option, None, Some, true, false, ap, subst, add-one, arith}
 use Rattle.std.specs.List.{range_with_len}
 use Rattle.std.specs.List.Sorted.{IsStrictlyIncreasing}
 use Rattle.std.proofs.lemmas.Bool.{cases_lt}
 use Rattle.std.proofs.lemmas.List.Elements.{All-head, All-tail}
 use Rattle.std.proofs.lemmas.List.Sums.{sum_by-cons}
-use Rattle.pack_model.specs.Problem.{Parts, IsProblem, sent_by}
+use Rattle.pack_model.specs.Problem.{Parts, sent_by}
 use Rattle.cert_text.specs.Parts.{CertParts, LemmaOf}
 use Rattle.cert_text.specs.Trees.{Plain}
-use Rattle.bandwidth_bound.specs.Goals.{eighths, lemma_goal, main_goal}
-use Rattle.bandwidth_bound.specs.Lemmas.{LemmaStands, LemmasStand, values_of}
+use Rattle.bandwidth_bound.specs.Goals.{lemma_goal, main_goal}
+use Rattle.bandwidth_bound.specs.Lemmas.{LemmasStand, values_of}
 use Rattle.bandwidth_bound.specs.Trees.{TreeStands}
 use Rattle.tree_search.specs.Count.{place_count}
 use Rattle.tree_search.specs.declared.finding.Found.{Found}
@@ -39,8 +39,7 @@ climbs : (high low : ℕ) (lemmas : List (LemmaOf Plain)) → low ≤ get_or (ma
 climbs high low [] at rises below = tt
 climbs high low (l ∷ []) at rises below = (at, All-head (λ m. m.sender < high) l [] below, tt)
 climbs high low (l ∷ m ∷ lemmas) at rises below =
-    let next : l.sender < m.sender = rises 0 (omega arith) in
-    (
+    let next : l.sender < m.sender = rises 0 (omega arith) in (
       at,
       All-head (λ m. m.sender < high) l (m ∷ lemmas) below,
       climbs high (l.sender + 1) (m ∷ lemmas) (omega (arith, next))
@@ -68,7 +67,7 @@ sum_below f high (suc n) low (l ∷ lemmas) e climb each = by (cases_lt low l.se
     by (inr here) below =
         let same : l.sender ≡ low = omega (arith, here, climb.0) in
         let head : nodes_of l.tree ≤ f low = rw (← same)
-            (All-head (λ l. nodes_of l.tree ≤ f l.sender) l lemmas each) in
+        (All-head (λ l. nodes_of l.tree ≤ f l.sender) l lemmas each) in
         omega (
           arith,
           head,

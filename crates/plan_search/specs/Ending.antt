@@ -38,8 +38,8 @@ abbrev pub plan_without : List (LemmaOf Plain) → Plain → Bool → Planned
 plan_without lemmas tree true = planned.Spent None (open_cert [] lemmas tree)
 plan_without lemmas tree false = planned.NoSolution (none_cert tree)
 
--- what a search over all items from a first best ends with: the best grouping, whether a leaf is open, and the final
--- tree
+-- what a search over all items from a first best ends with: the best grouping, whether a leaf is open, and
+-- the final tree
 pub record IsEnded (problem : Parts) (values : List ℕ) (first : Option Found) (left : ℕ)
     (ended : Ended) : Type 0 where
   pub end : Searched

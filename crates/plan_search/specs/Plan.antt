@@ -1,7 +1,7 @@
 -- What is planned with a budget of branches: read this first.
-use Rattle.std.specs.Prelude.{ℕ, ◌≡◌, ◌*◌, ◌≤◌, ◌<◌, ⊤, true, false, List, [], length, All, Option, Some, None}
+use Rattle.std.specs.Prelude.{ℕ, ◌≡◌, ◌*◌, ◌<◌, ⊤, true, false, List, [], All, Option, Some, None}
 use Rattle.std.specs.Option.{option_map}
-use Rattle.pack_model.specs.Problem.{Parts, IsProblem}
+use Rattle.pack_model.specs.Problem.{Parts}
 use Rattle.class_frame.specs.Classes.{load_of}
 use Rattle.matrix_rows.specs.declared.matrix.MatrixRow.{MatrixRow}
 use Rattle.matrix_text.specs.Frames.{grouping_of}
@@ -26,8 +26,8 @@ use Rattle.plan_search.specs.Searches.{IsSearch, IsTrimmedIn, LemmaIsTrimmed, br
 
 -- ---- the answer
 
--- the matrix is that of a grouping in its order, and the lines have the least numbers that show that each frame
--- passes
+-- the matrix is that of a grouping in its order, and the lines have the least numbers that show that each
+-- frame passes
 pub record IsShownBy (problem : Parts) (found : Found) (rows : List MatrixRow)
     (lines : List FrameLine) : Type 0 where
   pub matrix : rows ≡ rows_of problem found.labels found.order
@@ -52,8 +52,8 @@ abbrev pub open_cert : List FrameLine → List (LemmaOf Plain) → Plain → Cer
 open_cert lines lemmas tree =
     record { kind = KindBetween; frames = lines; lemmas = lemmas; main_tree = Some tree }
 
--- a plan ends with this answer from its lemmas, the best grouping, if there is one, and the main tree: without
--- open leaves it is the best grouping, or there is no solution; else the branches are spent
+-- a plan ends with this answer from its lemmas, the best grouping, if there is one, and the main tree:
+-- without open leaves it is the best grouping, or there is no solution; else the branches are spent
 abbrev pub Ends : Parts → List (LemmaOf Plain) → Option Found → Plain → Planned → Type 0
 Ends problem lemmas best tree (planned.Best rows cert) =
     (has_open tree ≡ false) × ((found : Found) × (best ≡ Some found)
@@ -77,8 +77,8 @@ abbrev pub last_found : Option Found → Option Found → Option Found
 last_found (Some found) first = Some found
 last_found None first = first
 
--- this is planned within so many branches: from its lemmas and its first best the search over all items goes on
--- with the branches that are left
+-- this is planned within so many branches: from its lemmas and its first best the search over all items goes
+-- on with the branches that are left
 pub record IsPlanOf (problem : Parts) (branches : ℕ) (plan : Planned) : Type 0 where
   pub lemmas : List (LemmaOf Plain)
   pub left : ℕ
@@ -125,8 +125,8 @@ abbrev pub MainIsTrimmed : Parts → List ℕ → ℕ → Option Plain → Type 
 MainIsTrimmed problem values load None = ⊥
 MainIsTrimmed problem values load (Some tree) = IsTrimmedIn problem None values (8 * load) tree
 
--- the trees that are written where the answer is final are trimmed: of `best` the lemmas' and the main one, and
--- `none` has no lemmas
+-- the trees that are written where the answer is final are trimmed: of `best` the lemmas' and the main one,
+-- and `none` has no lemmas
 abbrev pub IsTrimmedPlan : Parts → Planned → Type 0
 IsTrimmedPlan problem (planned.Best rows cert) =
     All (LemmaIsTrimmed problem) cert.lemmas

@@ -1,5 +1,5 @@
 -- Searches with a budget of steps, and the count of branches: the project's own.
-use Rattle.std.specs.Prelude.{ℕ, ◌≡◌, ◌+◌, ◌≤◌, ◌<◌, ◌*◌, false, List, [], length, map, sum_by, Option, Some, None}
+use Rattle.std.specs.Prelude.{ℕ, ◌≡◌, ◌+◌, ◌≤◌, ◌<◌, false, List, [], length, sum_by, Option, Some, None}
 use Rattle.std.specs.List.{range_with_len}
 use Rattle.pack_model.specs.Problem.{Parts, sent_by}
 use Rattle.grouping_tree.specs.Grouped.{items_in}

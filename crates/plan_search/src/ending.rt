@@ -44,8 +44,8 @@ fn plan_without(alloc: Global, lemmas: Vec<Lemma>, tree: Tree, is_open: bool) ->
     Planned::NoSolution(Cert::of(Kind::KindNoSolution, lines, Vec::new(alloc), Some(tree)))
 }
 
-/// What a plan ends with: lemmas, the best grouping, if there is one, the final tree, and whether a leaf is open in
-/// it. The only error is want of memory.
+/// What a plan ends with: lemmas, the best grouping, if there is one, the final tree, and whether a leaf is
+/// open in it. The only error is want of memory.
 pub(crate) fn end(
     alloc: Global,
     problem: &Problem,

@@ -70,8 +70,8 @@ fn values_of(alloc: Global, problem: &Problem, lemmas: &[Lemma]) -> Result<Vec<u
     Ok(values)
 }
 
-/// The nodes of a tree over all items, trimmed where the lower bound with the values of lemmas reaches 8 times the load.
-/// The only error is want of memory.
+/// The nodes of a tree over all items, trimmed where the lower bound with the values of lemmas reaches 8
+/// times the load. The only error is want of memory.
 fn trimmed_nodes(
     alloc: Global,
     problem: &Problem,
@@ -90,8 +90,8 @@ fn trimmed_nodes(
     Ok(kept)
 }
 
-/// The nodes of the tree that is written: trimmed, where no leaf is open and there is a best load. The only error is
-/// want of memory.
+/// The nodes of the tree that is written: trimmed, where no leaf is open and there is a best load. The only
+/// error is want of memory.
 fn final_nodes(
     alloc: Global,
     problem: &Problem,
@@ -116,9 +116,9 @@ fn final_nodes(
     }
 }
 
-/// Ends a plan with lemmas, the best grouping, if there is one, and the main tree: without an open leaf it is trimmed,
-/// and the answer is `Best`, or `NoSolution` where there is no best grouping; else the answer is `Spent`, with the tree
-/// as it stands. The only error is want of memory.
+/// Ends a plan with lemmas, the best grouping, if there is one, and the main tree: without an open leaf it is
+/// trimmed, and the answer is `Best`, or `NoSolution` where there is no best grouping; else the answer is
+/// `Spent`, with the tree as it stands. The only error is want of memory.
 pub fn finish(
     alloc: Global,
     problem: &Problem,

@@ -11,9 +11,9 @@ use crate::searching::{Ended, problem_stands, search_all};
 use pack_model::{Memory, Problem};
 use std::alloc::Global;
 
-/// Plans within so many branches, from 1 to 1000000: the matrix of the least load with its certificate, or that no
-/// grouping can meet all deadlines, or, where the branches are spent, the best so far and a lower bound. The only
-/// error is want of memory.
+/// Plans within so many branches, from 1 to 1000000: the matrix of the least load with its certificate, or
+/// that no grouping can meet all deadlines, or, where the branches are spent, the best so far and a lower
+/// bound. The only error is want of memory.
 pub fn plan(alloc: Global, problem: &Problem, branches: u64) -> Result<Planned, Memory>
     requires some { 1 ≤ branches }
     requires most { branches ≤ 1000000 }

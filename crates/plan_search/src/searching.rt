@@ -55,8 +55,8 @@ fn last_found(found: Option<Found>, first: Option<Found>) -> Option<Found>
     }
 }
 
-/// The tree of a search over all items, trimmed where no leaf is open and there is a best load. The only error is
-/// want of memory.
+/// The tree of a search over all items, trimmed where no leaf is open and there is a best load. The only
+/// error is want of memory.
 fn final_tree(
     alloc: Global,
     judge: &SearchJudge,
@@ -84,8 +84,8 @@ fn final_tree(
     }
 }
 
-/// Searches over all items from a first best grouping, if there is one, by bounds with the values of lemmas, in at
-/// most so many steps. The only error is want of memory.
+/// Searches over all items from a first best grouping, if there is one, by bounds with the values of lemmas,
+/// in at most so many steps. The only error is want of memory.
 pub(crate) fn search_all(
     alloc: Global,
     problem: &Problem,

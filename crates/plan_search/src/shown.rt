@@ -11,8 +11,8 @@ use pack_model::{Memory, Problem};
 use std::alloc::Global;
 use tree_search::Found;
 
-/// The matrix of a grouping in its order, and the lines with the least numbers that show that each frame passes.
-/// The only error is want of memory.
+/// The matrix of a grouping in its order, and the lines with the least numbers that show that each frame
+/// passes. The only error is want of memory.
 pub(crate) fn shown_by(
     alloc: Global,
     problem: &Problem,

@@ -7,10 +7,10 @@ ghost use Rattle.plan_search.specs.Begin.{AreTurns, after_turn, turn_count as tu
 ghost use Rattle.plan_search.specs.Takes.{IsSpent, turns_of};
 
 use crate::count::count_nodes;
-use search_judge::SearchJudge;
 use cert_text::Lemma;
 use grouping_tree::Partial;
 use pack_model::{Labels, Memory, Problem};
+use search_judge::SearchJudge;
 use std::alloc::Global;
 use tree_search::Search;
 

@@ -1,4 +1,4 @@
-use Rattle.std.proofs.Common.{◌≡◌, ◌*◌, ◌<◌, ◌^◌, ◌++◌, [], List, ℕ, map, true, IfSome, sym, ap, ◌∙◌, subst}
+use Rattle.std.proofs.Common.{◌≡◌, ◌*◌, ◌<◌, ◌^◌, ◌++◌, [], List, map, true, IfSome, sym, ap, ◌∙◌, subst}
 use Rattle.std.specs.List.{list_any}
 use Rattle.cert_text.specs.declared.parts.Lemma.{Lemma}
 use Rattle.cert_text.specs.PlainTree.{plain_lemma, plain_of}
@@ -6,12 +6,11 @@ use Rattle.bandwidth_bound.specs.Goals.{main_goal}
 use Rattle.bandwidth_bound.specs.Lemmas.{values_of}
 use Rattle.bandwidth_bound.specs.Loads.{LoadsFit}
 use Rattle.bandwidth_bound.proofs.Loads.{loads_fit}
-use Rattle.tree_search.specs.declared.node.Node.{Node}
 use Rattle.tree_search.specs.Flat.{flat}
 use Rattle.tree_search.specs.Open.{HasOptions, has_open}
 use Rattle.tree_search.proofs.Standing.{has_options}
 use Rattle.plan_search.specs.Ending.{final_tree, is_left}
-use Rattle.plan_search.specs.Plan.{Ends, load_found}
+use Rattle.plan_search.specs.Plan.{load_found}
 use Rattle.plan_search.proofs.Ended.{ends_accepted, ends_fits, ends_trimmed}
 use Rattle.plan_search.proofs.OpenFlat.{open-flat}
 use Rattle.plan_search.proofs.SearchEnds.{found_fits}

@@ -1,6 +1,5 @@
-use Rattle.std.proofs.Common.{◌≡◌, ℕ, ◌*◌, List, [], sym, ap, ◌∙◌, subst}
+use Rattle.std.proofs.Common.{◌≡◌, List, [], sym, ap, ◌∙◌, subst}
 use Rattle.pack_model.specs.declared.item.Item.{Item}
-use Rattle.cert_text.specs.Trees.{Plain}
 use Rattle.grouping_tree.specs.Grouped.{labels_of, range_of}
 use Rattle.tree_search.specs.Flat.{flat}
 use Rattle.tree_search.specs.Open.{HasOptions}

@@ -1,4 +1,4 @@
-use Rattle.std.proofs.Common.{◌+◌, ◌∷◌, map, drop, sym, ap, ◌∙◌}
+use Rattle.std.proofs.Common.{◌+◌, map, drop, sym, ap, ◌∙◌}
 use Rattle.pack_model.proofs.ListLaws.{drop-map_cons}
 use Rattle.cert_text.specs.PlainTree.{plain_lemma}
 use Rattle.bandwidth_bound.specs.Lemmas.{value_of}

@@ -1,4 +1,4 @@
-use Rattle.std.proofs.Common.{◌≡◌, ℕ, ◌*◌, ◌<◌, ◌^◌, List, [], length, Option, Some, None, IfSome, refl, sym, ap, ◌∙◌, subst, arith}
+use Rattle.std.proofs.Common.{◌≡◌, ℕ, ◌*◌, ◌<◌, ◌^◌, List, [], None, IfSome, refl, sym, ap, ◌∙◌, subst, arith}
 use Rattle.pack_model.specs.declared.item.Item.{Item}
 use Rattle.pack_model.specs.Problem.{Parts}
 use Rattle.cert_text.specs.Trees.{left}
@@ -9,9 +9,8 @@ use Rattle.search_judge.specs.Findings.{Finds}
 use Rattle.search_judge.specs.Laws.{FindingsShow}
 use Rattle.search_judge.proofs.Shows.{shows}
 use Rattle.tree_search.specs.declared.search.Search.{Search}
-use Rattle.tree_search.specs.Shown.{IsAt, items_of, start_of}
-use Rattle.tree_search.specs.Step.{Searched, Steps}
-use Rattle.tree_search.proofs.Counts.{nodes_of-shown}
+use Rattle.tree_search.specs.Shown.{items_of, start_of}
+use Rattle.tree_search.specs.Step.{Steps}
 use Rattle.plan_search.specs.Ending.{final_tree}
 use Rattle.plan_search.specs.Plan.{last_found, load_found}
 use Rattle.plan_search.specs.Searches.{begun_with}
@@ -32,8 +31,7 @@ final_tree-requires-clause-suits c =
 pub final_tree-requires-clause-tree : goal.final_tree-requires-clause-tree
 final_tree-requires-clause-tree c =
     let step = c.in_ok-advance.ensures.gives (record { tree = left; best = c.load_found.result; found = None })
-        c.new-search.ensures.at in
-    (
+    c.new-search.ensures.at in (
       record step.0 { found = None },
       taken_at c.args.problem.now c.advance.new.self c.take_found.new.self step.0 c.take_found.ensures.rest step.2,
     )
@@ -48,7 +46,7 @@ the_shows problem stands range values best p partial = shows problem stands rang
 pub final_tree-requires-clause-low : goal.final_tree-requires-clause-low
 final_tree-requires-clause-low c =
     let step = c.in_ok-advance.ensures.gives (record { tree = left; best = c.load_found.result; found = None })
-        c.new-search.ensures.at in
+    c.new-search.ensures.at in
     let steps : Steps (Finds c.args.problem.now None c.args.values.now) c.args.problem.now.items [] c.in_ok-advance.field-0
     (begun_with (load_found c.args.first)) step.0 =
     steps_over c.args.problem.now c.args.values.now (items_of c.args.problem.now c.new-search.result)
@@ -68,7 +66,7 @@ final_tree-requires-clause-low c =
 pub returns : goal.returns
 returns c =
     let step = c.in_ok-advance.ensures.gives (record { tree = left; best = c.load_found.result; found = None })
-        c.new-search.ensures.at in
+    c.new-search.ensures.at in
     let steps : Steps (Finds c.args.problem.now None c.args.values.now) c.args.problem.now.items [] c.in_ok-advance.field-0
     (begun_with (load_found c.args.first)) step.0 =
     steps_over c.args.problem.now c.args.values.now (items_of c.args.problem.now c.new-search.result)

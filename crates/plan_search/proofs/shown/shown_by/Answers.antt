@@ -1,4 +1,4 @@
-use Rattle.std.proofs.Common.{◌≡◌, ℕ, List, length, All, sym, ap, ◌∙◌, subst, arith}
+use Rattle.std.proofs.Common.{◌≡◌, List, length, All, sym, ap, ◌∙◌, subst, arith}
 use Rattle.pack_model.specs.declared.network.Network.{Network}
 use Rattle.busy_period.specs.declared.timed.Timed.{Timed}
 use Rattle.busy_period.specs.Timed.{IsInRange}
@@ -11,7 +11,7 @@ use Rattle.plan_search.proofs.shown.shown_by.Goals as goal
 pub overflow_cast-order : goal.overflow_cast-order
 overflow_cast-order c =
     let few = order_few c.args.problem.now c.args.found.now.labels c.args.found.now.order
-        c.requires.lowest_first c.network.ensures.problem c.requires.legal in
+    c.requires.lowest_first c.network.ensures.problem c.requires.legal in
     omega (arith, few, ap length c.as_slice-order.ensures)
 
 pub class_frames-requires-clause-classes : goal.class_frames-requires-clause-classes

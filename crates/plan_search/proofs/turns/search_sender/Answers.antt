@@ -1,12 +1,10 @@
-use Rattle.std.proofs.Common.{◌≡◌, ◌<◌, ◌^◌, ℕ, ◌*◌, [], List, Option, None, Some, true, false, refl, sym, ap, ◌∙◌, arith}
+use Rattle.std.proofs.Common.{◌≡◌, ◌<◌, ◌^◌, ◌*◌, [], None, Some, false, refl, sym, ap, ◌∙◌, arith}
 use Rattle.pack_model.specs.Problem.{sent_by}
 use Rattle.cert_text.specs.Parts.{LemmaOf}
 use Rattle.cert_text.specs.PlainTree.{plain_of}
 use Rattle.cert_text.specs.Trees.{Plain}
 use Rattle.bandwidth_bound.specs.Prices.{lower8_of}
 use Rattle.plan_search.specs.Searches.{trimmed}
-use Rattle.tree_search.specs.declared.finding.Found.{Found}
-use Rattle.tree_search.specs.declared.search.Search.{Search}
 use Rattle.tree_search.specs.Shown.{items_of, start_of}
 use Rattle.tree_search.specs.Open.{has_open}
 use Rattle.plan_search.proofs.Sought.{ended, has-found}
