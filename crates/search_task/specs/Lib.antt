@@ -1,2 +1,3 @@
+pub mod Task
 pub mod Turn
 pub mod Walks

@@ -4,4 +4,8 @@
 //! some steps further.
 #![tactic(auto)]
 
+mod placing;
+mod task;
 mod turn;
+
+pub use task::Task;
