@@ -1,5 +1,5 @@
 -- A search over all items from a partial grouping: its tree and what it found stand after each step.
-use Rattle.std.proofs.Common.{◌≡◌, ◌<◌, ℕ, zero, suc, List, ◌∷◌, All, Bool, true, false, Option, None, Some, IfSome, cond, length, nat_lt, arith, refl, sym, ap, ◌∙◌, subst}
+use Rattle.std.proofs.Common.{◌≡◌, ◌<◌, ℕ, zero, suc, List, All, Bool, true, false, Option, None, Some, IfSome, cond, length, nat_lt, arith, refl, sym, ap, ◌∙◌, subst}
 use Rattle.std.proofs.lemmas.Bool.{ltb-true}
 use Rattle.std.proofs.lemmas.List.Elements.{All-head}
 use Rattle.pack_model.specs.declared.item.Item.{Item}
@@ -124,6 +124,15 @@ steps_over problem values items p q judge made x y is same there steps =
     (subst (λ (xs : List Item). Steps (Finds problem None values) xs p made x y) same
     (subst (λ vs. Steps (Finds problem None vs) items p made x y) is.values_are
     (subst (λ r. Steps (Finds problem r judge.values.items) items p made x y) is.range_is steps)))
+
+-- the same of a task that holds what they end with
+pub steps_kept : (problem : Parts) (values : List ℕ) (items : List Item) (p q : List ℕ) (judge : SearchJudge)
+    (made : ℕ) (x y z : Searched) → IsJudge problem None values judge → items ≡ problem.items → p ≡ q
+    → Steps (Finds problem judge.range judge.values.items) items p made x y → z ≡ y
+    → Steps (Finds problem None values) problem.items q made x z
+steps_kept problem values items p q judge made x y z is same there steps kept =
+    subst (λ (e : Searched). Steps (Finds problem None values) problem.items q made x e) (sym kept)
+    (steps_over problem values items p q judge made x y is same there steps)
 
 -- some place is open where the turn is not done
 agenda_more : (items : List Item) (base : ℕ) (labels : List ℕ) (is_open : Bool)

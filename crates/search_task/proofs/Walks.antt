@@ -2,6 +2,8 @@
 use Rattle.std.proofs.Common.{◌≡◌, ℕ, zero, suc, ◌+◌, ◌<◌, List, [], ◌∷◌, ◌++◌, length, take, drop, replicate, Bool, true, false, refl, sym, ap, ◌∙◌, append_assoc, append-nil, add-one}
 use Rattle.std.specs.Prelude.{⊤}
 use Rattle.pack_model.specs.declared.item.Item.{Item}
+use Rattle.cert_text.specs.declared.parts.Tree.{Tree}
+use Rattle.cert_text.specs.PlainTree.{plain_of}
 use Rattle.cert_text.specs.Trees.{Plain, Plains, bound, fail, inner, left, more, none}
 use Rattle.grouping_tree.specs.Partial.{options_of}
 use Rattle.grouping_tree.specs.Walk.{places_below, places_beside, places_left, with_each}
@@ -208,6 +210,12 @@ rest-open (x ∷ nodes) rest [] (suc k) h c b e =
 rest-open (x ∷ nodes) rest (node ∷ closed) k h c b e =
     let after : nodes ++ rest ≡ closed ++ replicate k Left = cc in
     rest-open nodes rest closed k (closed-tail x nodes h) (closed-tail node closed c) b after
+
+-- at first the nodes are those of the tree
+pub nodes-of : (tree kept : Tree) (before nodes : List Node) → kept ≡ tree → before ≡ []
+    → nodes ≡ before ++ flat (plain_of kept) → flat (plain_of tree) ≡ nodes
+nodes-of tree kept before nodes same empty e =
+    ap (λ (t : Tree). flat (plain_of t)) (sym same) ∙ ap (λ xs. xs ++ flat (plain_of kept)) (sym empty) ∙ sym e
 
 -- at the first open leaf the walk shows the tree
 pub walks-end : (items : List Item) (from : List ℕ) (t : Plain) (all nodes rest : List Node)

@@ -1,5 +1,5 @@
 -- A task: a search over all items of a problem that stops between turns. Read this first.
-use Rattle.std.specs.Prelude.{ℕ, ◌≡◌, true, List, length, nat_lt, Option, None, Some, IfSome, cond}
+use Rattle.std.specs.Prelude.{ℕ, ◌≡◌, true, length, nat_lt, Option, None, Some, IfSome, cond}
 use Rattle.pack_model.specs.Problem.{Parts}
 use Rattle.cert_text.specs.PlainTree.{plain_of}
 use Rattle.grouping_tree.specs.Partial.{IsPartial}

@@ -1,8 +1,8 @@
 -- A turn of a search: what it holds, and the tree that it is at.
-use Rattle.std.specs.Prelude.{◌≡◌, ◌≤◌, ℕ, Bool, false, List, length, take}
+use Rattle.std.specs.Prelude.{◌≡◌, ◌≤◌, ℕ, false, List, length, take}
 use Rattle.pack_model.specs.declared.item.Item.{Item}
 use Rattle.pack_model.specs.Problem.{Parts}
-use Rattle.grouping_tree.specs.Grouped.{Belongs, labels_of, range_of, room_of}
+use Rattle.grouping_tree.specs.Grouped.{Belongs, labels_of, range_of}
 use Rattle.tree_search.specs.Shown.{Shows, agenda}
 use Rattle.tree_search.specs.Step.{Searched}
 use Rattle.search_task.specs.declared.turn.Turn.{Turn}

@@ -1,6 +1,5 @@
-use Rattle.std.proofs.Common.{◌≡◌, ◌+◌, ◌++◌, ◌∷◌, [], take, drop, get_or, sym, ap, ◌∙◌, subst, arith}
-use Rattle.std.proofs.lemmas.List.{take_all, take_more, take-append-drop}
-use Rattle.grouping_tree.specs.Grouped.{labels_of, range_of}
+use Rattle.std.proofs.Common.{◌≡◌, ◌+◌, ◌++◌, ◌∷◌, [], take, drop, get_or, sym, ap, ◌∙◌, subst}
+use Rattle.std.proofs.lemmas.List.{take_more, take-append-drop}
 use Rattle.grouping_tree.specs.Partial.{IsPartial}
 use Rattle.grouping_tree.proofs.Fronts.{partial-append}
 use Rattle.search_task.proofs.placing.place.Goals as goal

@@ -1,4 +1,4 @@
-use Rattle.std.proofs.Common.{arith, refl, ◌∙◌}
+use Rattle.std.proofs.Common.{arith, refl}
 use Rattle.search_task.specs.Turn.{items_of, start_of}
 use Rattle.search_task.proofs.Moves.{goes_on-same, goes_on-trans}
 use Rattle.tree_search.proofs.Steps.{step-back, steps-one_more}

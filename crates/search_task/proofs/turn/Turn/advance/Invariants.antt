@@ -1,4 +1,4 @@
-use Rattle.std.proofs.Common.{◌≡◌, ◌+◌, ◌-◌, ◌≤◌, ℕ, List, Option, length}
+use Rattle.std.proofs.Common.{◌-◌, ◌≤◌, ℕ, List, Option}
 use Rattle.pack_model.specs.declared.item.Item.{Item}
 use Rattle.pack_model.specs.Problem.{Parts}
 use Rattle.tree_search.specs.declared.finding.Finding.{Finding}

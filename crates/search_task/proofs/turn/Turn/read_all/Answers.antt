@@ -1,4 +1,4 @@
-use Rattle.std.proofs.Common.{◌≡◌, ◌∷◌, ◌++◌, [], refl, sym, ap, ◌∙◌, append_assoc, length, reverse}
+use Rattle.std.proofs.Common.{◌≡◌, ◌∷◌, ◌++◌, [], refl, sym, ap, ◌∙◌, append_assoc, reverse}
 use Rattle.std.proofs.lemmas.List.{nil_from_length, reverse-append, reverse-reverse}
 use Rattle.grouping_tree.specs.Grouped.{labels_of}
 use Rattle.tree_search.specs.Shown.{agenda}

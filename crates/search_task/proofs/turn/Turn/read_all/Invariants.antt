@@ -1,4 +1,4 @@
-use Rattle.std.proofs.Common.{◌≡◌, ◌++◌, List, length, reverse}
+use Rattle.std.proofs.Common.{◌≡◌, ◌++◌, length, reverse}
 use Rattle.cert_text.specs.Trees.{Plain}
 use Rattle.grouping_tree.specs.Grouped.{labels_of}
 use Rattle.tree_search.specs.Flat.{IsClosed, flat}
