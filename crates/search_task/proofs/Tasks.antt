@@ -56,7 +56,8 @@ module _ (problem : Parts) (stands : IsProblem problem) (sorted : IsSorted probl
 
   -- what was found stands after each finding
   found_along : (best : Option ℕ) (p : List ℕ) (finding : Finding) (found : Option Found)
-      → IsPartial problem.items p → Finds problem None values best p finding → IfSome found (FoundStands problem)
+      → IsPartial problem.items p → Finds problem None values best p finding
+      → IfSome found (FoundStands problem)
       → IfSome (found_after finding p found) (FoundStands problem)
   found_along best p Bounded found partial h is = is
   found_along best p (Failed named) found partial h is = is
@@ -70,7 +71,8 @@ module _ (problem : Parts) (stands : IsProblem problem) (sorted : IsSorted probl
       }
   found_along best p Parted found partial h is = is
 
-  one_step : (x y : Searched) → Step (Finds problem None values) problem.items from x y → IsAlong x → IsAlong y
+  one_step : (x y : Searched) → Step (Finds problem None values) problem.items from x y → IsAlong x
+      → IsAlong y
   one_step x y step along =
       let partial : IsPartial problem.items step.place = place_partial x y step along in
       let next =
@@ -141,7 +143,8 @@ agenda_more items base labels true = refl
 agenda_more items base labels false = refl
 
 -- some leaf of its tree is open then
-pub open_at : (problem : Parts) (turn : Turn) (x : Searched) → IsAt problem turn x → has_open x.tree ≡ turn.open
+pub open_at : (problem : Parts) (turn : Turn) (x : Searched) → IsAt problem turn x
+    → has_open x.tree ≡ turn.open
 open_at problem turn x at =
     has_open-is (any_goal (items_of problem turn)) (start_of turn) x.tree at.shows.options
     ∙ ap is_more at.shows.open_are
@@ -182,7 +185,8 @@ is_task problem stands sorted shows old new turn best made y task at steps is op
     let along =
     steps_along problem stands sorted shows old.lemmas.items old.path.items task.path_stands made
     (taken_over old best) y steps (record {
-      tree = stands_over problem old.lemmas.items old.path.items old.best best (plain_of old.tree) task.stands;
+      tree =
+          stands_over problem old.lemmas.items old.path.items old.best best (plain_of old.tree) task.stands;
       found = task.found_stands;
     }) in
     let tree_is : plain_of new.tree ≡ y.tree = ap (λ (x : Searched). x.tree) is in

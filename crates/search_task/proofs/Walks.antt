@@ -24,7 +24,8 @@ flat_each-list (more t ts) = ap (λ xs. flat t ++ xs) (flat_each-list ts)
 
 module _ (items : List Item) where
   -- the subtrees of an inner node, one for each option
-  count-options : (p ls : List ℕ) (ts : Plains) → EachStands (any_goal items) p ls ts → count_of ts ≡ length ls
+  count-options : (p ls : List ℕ) (ts : Plains) → EachStands (any_goal items) p ls ts
+      → count_of ts ≡ length ls
   count-options p [] none h = refl
   count-options p [] (more t ts) h = absurd h
   count-options p (l ∷ ls) none h = absurd h
@@ -215,7 +216,8 @@ rest-open (x ∷ nodes) rest (node ∷ closed) k h c b e =
 pub nodes-of : (tree kept : Tree) (before nodes : List Node) → kept ≡ tree → before ≡ []
     → nodes ≡ before ++ flat (plain_of kept) → flat (plain_of tree) ≡ nodes
 nodes-of tree kept before nodes same empty e =
-    ap (λ (t : Tree). flat (plain_of t)) (sym same) ∙ ap (λ xs. xs ++ flat (plain_of kept)) (sym empty) ∙ sym e
+    ap (λ (t : Tree). flat (plain_of t)) (sym same) ∙ ap (λ xs. xs ++ flat (plain_of kept)) (sym empty)
+    ∙ sym e
 
 -- at the first open leaf the walk shows the tree
 pub walks-end : (items : List Item) (from : List ℕ) (t : Plain) (all nodes rest : List Node)
@@ -223,7 +225,8 @@ pub walks-end : (items : List Item) (from : List ℕ) (t : Plain) (all nodes res
     → flat t ≡ all → HasOptions items from t → EndsOpen all → IsClosed nodes → nodes ++ rest ≡ all
     → BeginsOpen rest → Walks items from t rest places → Shows items from nodes places t
 walks-end items from t all nodes rest places is options ends closed parts begins h =
-    let opened = rest-open nodes rest ends.closed ends.count closed ends.are_closed begins (parts ∙ ends.parts) in
+    let opened =
+    rest-open nodes rest ends.closed ends.count closed ends.are_closed begins (parts ∙ ends.parts) in
     let each = all-left items ends.count places h.trees h.options (sym h.parts ∙ opened) in
     record {
       closed = closed;

@@ -15,8 +15,8 @@ items_of problem turn = range_of problem turn.partial
 abbrev pub start_of : Turn → List ℕ
 start_of turn = take turn.base (labels_of turn.partial)
 
--- the partial grouping of a turn is one of the problem, at or below the start, and at the start where the search
--- is done
+-- the partial grouping of a turn is one of the problem, at or below the start, and at the start where the
+-- search is done
 pub record IsOf (problem : Parts) (turn : Turn) : Type 0 where
   pub belongs : Belongs problem turn.partial
   pub below : turn.base ≤ length (labels_of turn.partial)

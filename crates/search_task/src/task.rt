@@ -19,7 +19,8 @@ use std::alloc::Global;
 use std::mem;
 use tree_search::{Found, flatten};
 
-/// A search over all items from a partial grouping, by bounds with the values of lemmas, which stops between turns.
+/// A search over all items from a partial grouping, by bounds with the values of lemmas, which stops between
+/// turns.
 #[derive(Drop)]
 pub struct Task {
     /// The labels at which the search began.
@@ -38,9 +39,9 @@ pub struct Task {
 }
 
 impl Task {
-    /// A task whose tree is one open leaf at a path, a partial grouping of all items. `best` is a load in ticks a
-    /// common period, and `lemmas` has the value of a lemma for each sender, in eighths of ticks a common period,
-    /// 0 where there is none. The only error is want of memory.
+    /// A task whose tree is one open leaf at a path, a partial grouping of all items. `best` is a load in ticks
+    /// a common period, and `lemmas` has the value of a lemma for each sender, in eighths of ticks a common
+    /// period, 0 where there is none. The only error is want of memory.
     pub fn new(
         alloc: Global,
         problem: &Problem,
@@ -104,9 +105,9 @@ impl Task {
         Ok(())
     }
 
-    /// Takes a best load for its own where that is less, and then makes at most so many steps. Answers how many:
-    /// fewer only where no open leaf is left then. After an error nothing is known of the task, and it can only be
-    /// dropped. The only error is want of memory.
+    /// Takes a best load for its own where that is less, and then makes at most so many steps. Answers how
+    /// many: fewer only where no open leaf is left then. After an error nothing is known of the task, and it
+    /// can only be dropped. The only error is want of memory.
     pub fn advance(
         &mut self,
         problem: &Problem,

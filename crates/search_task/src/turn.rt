@@ -205,7 +205,8 @@ impl Turn {
         requires closed { IsClosed (node ∷ []) }
         requires walks { (t : Plain) × (rest : List Node)
             × Walks (items_of problem.now self.old) (start_of self.old) t (node ∷ rest)
-            (agenda (items_of problem.now self.old) self.old.base (labels_of self.old.partial) self.old.open) }
+            (agenda (items_of problem.now self.old) self.old.base (labels_of self.old.partial)
+            self.old.open) }
         ensures goes_on { OnOk result (GoesOn problem.now self.old self.new) }
         ensures nodes { OnOk result (self.new.nodes.items ≡ self.old.nodes.items ++ node ∷ []) }
         ensures best { self.new.best ≡ self.old.best }
@@ -214,7 +215,8 @@ impl Turn {
             → Walks (items_of problem.now self.old) (start_of self.old) t (node ∷ rest)
             (agenda (items_of problem.now self.old) self.old.base (labels_of self.old.partial) self.old.open)
             → Walks (items_of problem.now self.old) (start_of self.old) t rest
-            (agenda (items_of problem.now self.old) self.old.base (labels_of self.new.partial) self.new.open)) }
+            (agenda (items_of problem.now self.old) self.old.base (labels_of self.new.partial)
+            self.new.open)) }
     {
         match node {
             Node::Inner(_) => {
@@ -228,7 +230,8 @@ impl Turn {
         }
     }
 
-    /// Goes on to the first open leaf of a tree, given by its nodes: those that are done and then open leaves.
+    /// Goes on to the first open leaf of a tree, given by its nodes: those that are done and then open
+    /// leaves.
     pub fn read_all(&mut self, problem: &Problem, nodes: Vec<Node>) -> Result<(), Memory>
         requires search { IsOf problem.now self.old }
         requires none { self.old.nodes.items ≡ [] }
@@ -243,7 +246,8 @@ impl Turn {
         ensures shows { OnOk result ((t : Plain) → flat t ≡ nodes.items
             → HasOptions (items_of problem.now self.old) (start_of self.old) t
             → Shows (items_of problem.now self.old) (start_of self.old) self.new.nodes.items
-            (agenda (items_of problem.now self.old) self.old.base (labels_of self.new.partial) self.new.open) t) }
+            (agenda (items_of problem.now self.old) self.old.base (labels_of self.new.partial)
+            self.new.open) t) }
     {
         let mut rest = nodes;
         rest.reverse();

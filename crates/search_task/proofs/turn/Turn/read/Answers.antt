@@ -8,23 +8,23 @@ use Rattle.search_task.proofs.turn.Turn.read.Goals as goal
 pub part-requires-clause-open : goal.part-requires-clause-open
 part-requires-clause-open c =
     let self = c.args.self.now in
-    walks-open (items_of c.args.problem.now self) (start_of self) c.requires.walks.0 c.requires.walks.1 c.args.node
-    self.base (labels_of self.partial) self.open c.requires.walks.2
+    walks-open (items_of c.args.problem.now self) (start_of self) c.requires.walks.0 c.requires.walks.1
+    c.args.node self.base (labels_of self.partial) self.open c.requires.walks.2
 
 pub part-requires-clause-left : goal.part-requires-clause-left
 part-requires-clause-left c =
     let self = c.args.self.now in
     let here =
-    walks-inner (items_of c.args.problem.now self) (start_of self) c.requires.walks.0 c.requires.walks.1 c.args.node
-    self.base (labels_of self.partial) self.open c.in-Inner.field-0 c.in-Inner.is c.requires.walks.2 in
+    walks-inner (items_of c.args.problem.now self) (start_of self) c.requires.walks.0 c.requires.walks.1
+    c.args.node self.base (labels_of self.partial) self.open c.in-Inner.field-0 c.in-Inner.is c.requires.walks.2 in
     here.0
 
 pub returns-in_ok-part-in-Inner-clause-nodes : goal.returns-in_ok-part-in-Inner-clause-nodes
 returns-in_ok-part-in-Inner-clause-nodes c =
     let self = c.args.self.now in
     let here =
-    walks-inner (items_of c.args.problem.now self) (start_of self) c.requires.walks.0 c.requires.walks.1 c.args.node
-    self.base (labels_of self.partial) self.open c.in-Inner.field-0 c.in-Inner.is c.requires.walks.2 in
+    walks-inner (items_of c.args.problem.now self) (start_of self) c.requires.walks.0 c.requires.walks.1
+    c.args.node self.base (labels_of self.partial) self.open c.in-Inner.field-0 c.in-Inner.is c.requires.walks.2 in
     c.in_ok-part-in-Inner.ensures.nodes
     ∙ ap (λ n. self.nodes.items ++ Inner n ∷ []) (sym here.1)
     ∙ ap (λ one. self.nodes.items ++ one ∷ []) (sym c.in-Inner.is)
