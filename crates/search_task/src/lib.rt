@@ -6,6 +6,8 @@
 
 mod placing;
 mod task;
+#[cfg(test)]
+mod tests;
 mod turn;
 
 pub use task::Task;
