@@ -1,0 +1,3 @@
+pub mod Task
+pub mod Turn
+pub mod Walks
