@@ -1,6 +1,5 @@
 // Certificates of kind `timed`, and texts that are no certificate.
-use crate::runs::{CHECK, MATRIX, NETWORK, SIGNALS, TWO_FRAMES, folder_of, status_of};
-use pack_base::MemSink;
+use crate::runs::{MATRIX, NETWORK, SIGNALS, TWO_FRAMES, expect_check};
 use std::test::Fail;
 
 /// The second signal begins in the last bit of the first.
@@ -145,11 +144,8 @@ const CERTIFICATES: [(&[u8], &[u8], u8, &[u8]); 21] = [
 #[test]
 fn certificates(rt: HostRuntime) -> Result<(), Fail> {
     for (number, (matrix, cert, status, said)) in CERTIFICATES.iter().enumerate() {
-        let mut folder = folder_of(&rt, &[NETWORK, SIGNALS, matrix, cert])?;
-        let mut out = MemSink::new(rt.alloc());
-        let answer = status_of(&rt, &CHECK, &mut folder, &mut out)?;
-        assert_eq!(rt; answer, *status, "certificate {number}");
-        assert_eq!(rt; out.said(), *said, "certificate {number}");
+        let texts = [NETWORK, SIGNALS, *matrix, *cert];
+        expect_check(&rt, number, &texts, *status, said)?;
     }
     Ok(())
 }

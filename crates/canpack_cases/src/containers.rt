@@ -1,6 +1,5 @@
 // I-PDUs alone in a frame, together in a container, and containers that break one rule each.
-use crate::runs::{CERT, CHECK, NETWORK, folder_of, status_of};
-use pack_base::MemSink;
+use crate::runs::{CERT, NETWORK, expect_check};
 use std::alloc::{AllocError, Global};
 use std::test::Fail;
 
@@ -100,11 +99,8 @@ fn containers(rt: HostRuntime) -> Result<(), Fail> {
     for (number, (signals, rows, status, said)) in CONTAINERS.iter().enumerate() {
         let signals = text_of(rt.alloc(), SIGNALS_HEADER, signals)?;
         let matrix = text_of(rt.alloc(), MATRIX_HEADER, rows)?;
-        let mut folder = folder_of(&rt, &[NETWORK, &signals, &matrix, CERT])?;
-        let mut out = MemSink::new(rt.alloc());
-        let answer = status_of(&rt, &CHECK, &mut folder, &mut out)?;
-        assert_eq!(rt; answer, *status, "container {number}");
-        assert_eq!(rt; out.said(), *said, "container {number}");
+        let texts = [NETWORK, &signals, &matrix, CERT];
+        expect_check(&rt, number, &texts, *status, said)?;
     }
     Ok(())
 }

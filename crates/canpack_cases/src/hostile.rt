@@ -1,6 +1,5 @@
 // Hostile texts: each is refused or read by its rule, and none makes the program fail.
-use crate::runs::{CHECK, TWO_SIGNALS, folder_of, status_of};
-use pack_base::MemSink;
+use crate::runs::{TWO_SIGNALS, expect_by_reads, expect_check};
 use std::alloc::{AllocError, Global};
 use std::test::Fail;
 
@@ -149,11 +148,7 @@ fn one_hostile_text(rt: HostRuntime) -> Result<(), Fail> {
     for (number, (file, text, status, said)) in TEXTS.iter().enumerate() {
         let mut texts = TWO_SIGNALS;
         texts[*file] = text;
-        let mut folder = folder_of(&rt, &texts)?;
-        let mut out = MemSink::new(rt.alloc());
-        let answer = status_of(&rt, &CHECK, &mut folder, &mut out)?;
-        assert_eq!(rt; answer, *status, "text {number}");
-        assert_eq!(rt; out.said(), *said, "text {number}");
+        expect_check(&rt, number, &texts, *status, said)?;
     }
     Ok(())
 }
@@ -302,11 +297,7 @@ fn large_texts(rt: HostRuntime) -> Result<(), Fail> {
         let text = text_of(rt.alloc(), large)?;
         let mut texts = TWO_SIGNALS;
         texts[large.file] = &text;
-        let mut folder = folder_of(&rt, &texts)?;
-        let mut out = MemSink::new(rt.alloc());
-        let answer = status_of(&rt, &CHECK, &mut folder, &mut out)?;
-        assert_eq!(rt; answer, large.status, "large text {number}");
-        assert_eq!(rt; out.said(), large.said, "large text {number}");
+        expect_by_reads(&rt, number, &texts, usize::MAX, large.status, large.said)?;
     }
     Ok(())
 }

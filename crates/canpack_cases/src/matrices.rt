@@ -1,6 +1,5 @@
 // Matrices that break one rule each, and matrices at the edge of what is placed.
-use crate::runs::{CERT, CHECK, NETWORK, SIGNALS, TWO_SIGNALS, folder_of, status_of};
-use pack_base::MemSink;
+use crate::runs::{CERT, NETWORK, SIGNALS, TWO_SIGNALS, expect_check};
 use std::alloc::{AllocError, Global};
 use std::test::Fail;
 
@@ -32,18 +31,8 @@ fn one_rule_broken(rt: HostRuntime) -> Result<(), Fail> {
     for (number, rows) in BROKEN.iter().enumerate() {
         let mut matrix = MATRIX_HEADER.to_vec(rt.alloc())?;
         matrix.extend_from_slice(rows)?;
-        let mut folder = folder_of(&rt, &[NETWORK, SIGNALS, &matrix, CERT])?;
-        let mut out = MemSink::new(rt.alloc());
-        assert_eq!(rt;
-            status_of(&rt, &CHECK, &mut folder, &mut out)?,
-            5,
-            "matrix {number}"
-        );
-        assert_eq!(rt;
-            out.said(),
-            b"rejected matrix\n".as_slice(),
-            "matrix {number}"
-        );
+        let texts = [NETWORK, SIGNALS, &matrix, CERT];
+        expect_check(&rt, number, &texts, 5, b"rejected matrix\n")?;
     }
     Ok(())
 }
@@ -80,13 +69,8 @@ fn at_the_edge(rt: HostRuntime) -> Result<(), Fail> {
     for (number, (signals, rows)) in EDGES.iter().enumerate() {
         let signals = text_of(rt.alloc(), SIGNALS_HEADER, signals)?;
         let matrix = text_of(rt.alloc(), MATRIX_HEADER, rows)?;
-        let mut folder = folder_of(&rt, &[NETWORK, &signals, &matrix, CERT])?;
-        let mut out = MemSink::new(rt.alloc());
-        assert_eq!(rt;
-            status_of(&rt, &CHECK, &mut folder, &mut out)?,
-            0,
-            "edge {number}"
-        );
+        let texts = [NETWORK, &signals, &matrix, CERT];
+        expect_check(&rt, number, &texts, 0, b"placed\n")?;
     }
     Ok(())
 }
@@ -119,14 +103,7 @@ fn as_many_frames_as_items(rt: HostRuntime) -> Result<(), Fail> {
         let mut texts = TWO_SIGNALS;
         texts[1] = &signals;
         texts[2] = &matrix;
-        let mut folder = folder_of(&rt, &texts)?;
-        let mut out = MemSink::new(rt.alloc());
-        assert_eq!(rt;
-            status_of(&rt, &CHECK, &mut folder, &mut out)?,
-            status,
-            "{count} signals"
-        );
-        assert_eq!(rt; out.said(), said, "{count} signals");
+        expect_check(&rt, count as usize, &texts, status, said)?;
     }
     Ok(())
 }

@@ -1,6 +1,5 @@
 // Texts that are refused, each with its line.
-use crate::runs::{CHECK, TWO_SIGNALS, folder_of, status_of};
-use pack_base::MemSink;
+use crate::runs::{TWO_SIGNALS, expect_check};
 use std::test::Fail;
 
 /// The text of one file in the place of the accepted one, by its number from 0, with what is said.
@@ -102,11 +101,7 @@ fn one_text_refused(rt: HostRuntime) -> Result<(), Fail> {
     for (number, (file, text, said)) in REFUSED.iter().enumerate() {
         let mut texts = TWO_SIGNALS;
         texts[*file] = text;
-        let mut folder = folder_of(&rt, &texts)?;
-        let mut out = MemSink::new(rt.alloc());
-        let answer = status_of(&rt, &CHECK, &mut folder, &mut out)?;
-        assert_eq!(rt; answer, 4, "text {number}");
-        assert_eq!(rt; out.said(), *said, "text {number}");
+        expect_check(&rt, number, &texts, 4, said)?;
     }
     Ok(())
 }

@@ -1,6 +1,8 @@
 // One run of the top call over files in memory.
 use canpack_top::canpack;
 use pack_base::{MemFolder, MemSink, Memory, OpenGate};
+use std::process::Abort;
+use std::test::Fail;
 use std::thread::Threads;
 
 /// The four file words of each run.
@@ -58,4 +60,34 @@ pub(crate) fn status_of<R: AllocGlobal + Threads>(
         given.push(String::from_str(rt.alloc(), word)?)?;
     }
     Ok(canpack(rt, rt.alloc(), &given, folder, out, &OpenGate))
+}
+
+/// `check` ends with this status over these texts and says this, with reads of at most so many bytes.
+pub(crate) fn expect_by_reads<R: AllocGlobal + Threads + Abort>(
+    rt: &R,
+    row: usize,
+    texts: &[&[u8]; 4],
+    most: usize,
+    status: u8,
+    said: &[u8],
+) -> Result<(), Fail> {
+    let mut folder = folder_of(rt, texts)?;
+    folder.short_reads(most.max(1));
+    let mut out = MemSink::new(rt.alloc());
+    let answer = status_of(rt, &CHECK, &mut folder, &mut out)?;
+    assert_eq!(rt; answer, status, "row {row}");
+    assert_eq!(rt; out.said(), said, "row {row}");
+    Ok(())
+}
+
+/// The same with whole reads and with reads of one byte.
+pub(crate) fn expect_check<R: AllocGlobal + Threads + Abort>(
+    rt: &R,
+    row: usize,
+    texts: &[&[u8]; 4],
+    status: u8,
+    said: &[u8],
+) -> Result<(), Fail> {
+    expect_by_reads(rt, row, texts, usize::MAX, status, said)?;
+    expect_by_reads(rt, row, texts, 1, status, said)
 }

@@ -1,7 +1,7 @@
 // What `check` says of four texts.
-use crate::runs::{CHECK, NAMES, NETWORK, TWO_SIGNALS, folder_of, status_of};
+use crate::runs::{CHECK, NAMES, NETWORK, TWO_SIGNALS, expect_check};
 use canpack_top::canpack;
-use pack_base::{MemSink, NullSink, OpenGate, SteadyFolder};
+use pack_base::{NullSink, OpenGate, SteadyFolder};
 use std::test::Fail;
 
 /// The text of one file in the place of the accepted one, by its number from 0, with the status and what is said.
@@ -93,11 +93,7 @@ fn one_text_changed(rt: HostRuntime) -> Result<(), Fail> {
     for (number, (file, text, status, said)) in TEXTS.iter().enumerate() {
         let mut texts = TWO_SIGNALS;
         texts[*file] = text;
-        let mut folder = folder_of(&rt, &texts)?;
-        let mut out = MemSink::new(rt.alloc());
-        let answer = status_of(&rt, &CHECK, &mut folder, &mut out)?;
-        assert_eq!(rt; answer, *status, "text {number}");
-        assert_eq!(rt; out.said(), *said, "text {number}");
+        expect_check(&rt, number, &texts, *status, said)?;
     }
     Ok(())
 }

@@ -1,6 +1,5 @@
 // Certificates with trees: of the kinds `best`, `open` and `none`.
-use crate::runs::{CHECK, MATRIX, NETWORK, NO_ROWS, SIGNALS, TWO_FRAMES, folder_of, status_of};
-use pack_base::MemSink;
+use crate::runs::{MATRIX, NETWORK, NO_ROWS, SIGNALS, TWO_FRAMES, expect_check};
 use std::test::Fail;
 
 /// One signal of 8 bits whose deadline is before its frame's end.
@@ -240,11 +239,8 @@ const BEFORE_TREE: &[u8] = b"canpack certificate 1\nkind best\nframe 7400 0\nmai
 #[test]
 fn trees(rt: HostRuntime) -> Result<(), Fail> {
     for (number, (matrix, cert, status, said)) in TREES.iter().enumerate() {
-        let mut folder = folder_of(&rt, &[NETWORK, SIGNALS, matrix, cert])?;
-        let mut out = MemSink::new(rt.alloc());
-        let answer = status_of(&rt, &CHECK, &mut folder, &mut out)?;
-        assert_eq!(rt; answer, *status, "tree {number}");
-        assert_eq!(rt; out.said(), *said, "tree {number}");
+        let texts = [NETWORK, SIGNALS, *matrix, *cert];
+        expect_check(&rt, number, &texts, *status, said)?;
     }
     Ok(())
 }
@@ -252,11 +248,8 @@ fn trees(rt: HostRuntime) -> Result<(), Fail> {
 #[test]
 fn no_solutions(rt: HostRuntime) -> Result<(), Fail> {
     for (number, (signals, cert, status, said)) in NO_SOLUTIONS.iter().enumerate() {
-        let mut folder = folder_of(&rt, &[NETWORK, signals, NO_ROWS, cert])?;
-        let mut out = MemSink::new(rt.alloc());
-        let answer = status_of(&rt, &CHECK, &mut folder, &mut out)?;
-        assert_eq!(rt; answer, *status, "tree {number}");
-        assert_eq!(rt; out.said(), *said, "tree {number}");
+        let texts = [NETWORK, *signals, NO_ROWS, *cert];
+        expect_check(&rt, number, &texts, *status, said)?;
     }
     Ok(())
 }
@@ -268,10 +261,6 @@ fn deep_trees_are_refused(rt: HostRuntime) -> Result<(), Fail> {
     for _ in 0..129 {
         cert.extend_from_slice(b"i 1\n")?;
     }
-    let mut folder = folder_of(&rt, &[NETWORK, SIGNALS, MATRIX, &cert])?;
-    let mut out = MemSink::new(rt.alloc());
-    let answer = status_of(&rt, &CHECK, &mut folder, &mut out)?;
-    assert_eq!(rt; answer, 4);
-    assert_eq!(rt; out.said(), b"refused CERT line 133\n".as_slice());
-    Ok(())
+    let texts = [NETWORK, SIGNALS, MATRIX, &cert];
+    expect_check(&rt, 129, &texts, 4, b"refused CERT line 133\n")
 }
