@@ -298,6 +298,7 @@ pub record Chosen (frames : List Timed) (bit m : ℕ) (order now : List ℕ) : T
   pub blocks : blocking_of frames (drop (m - 1) now) ≡ max (frame_at frames (get_or now (m - 1) 0)).ticks (blocking_of frames (drop m order))
   pub long : length now ≡ length order
   pub inside : get_or now (m - 1) 0 < length frames
+  pub same : IsPermutation (take m order) (take m now)
 
 -- the order after a frame was chosen
 pub chosen_of : (frames : List Timed) (bit blocked m : ℕ) (order level : List ℕ) (found : Option ℕ) → Given frames bit
@@ -318,4 +319,6 @@ chosen_of frames bit blocked m order level found given some within fills is foun
       blocks = blocked_one_more frames m order now index within it.inside was;
       long = long;
       inside = All-get_or (λ number. number < length frames) now (m - 1) 0 (omega arith) filled.names_each_once.named;
+      same = subst (IsPermutation (take m order)) (sym (front_of_now order now m index within it.inside was).2)
+          (moved_last-permutation (take m order) index it.inside);
     }

@@ -1,3 +1,4 @@
 pub mod Level
+pub mod Once
 pub mod Lowest
 pub mod Checked

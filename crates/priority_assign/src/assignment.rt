@@ -4,6 +4,7 @@ ghost use Rattle.response_test.specs.Queueing.{IsBit};
 ghost use Rattle.response_test.specs.Order.{OrderPasses, FailSet};
 ghost use Rattle.priority_assign.specs.Lowest.{IsLowestFirst, remaining_count};
 
+use crate::in_time::once_of;
 use crate::level::choose_last;
 use busy_period::Timed;
 
@@ -44,13 +45,16 @@ pub fn assign(frames: &[Timed], bit: u64, order: &mut [u32]) -> Assigned
     ensures remaining { remaining_count result ≤ length frames.now }
 {
     number_each(order);
+    let mut once = once_of(frames, order);
     let mut blocked = 0;
     for placed in 0..order.len() {
         let remaining = order.len() - placed;
-        if choose_last(frames, bit, blocked, &mut order[..remaining]).is_none() {
+        if choose_last(frames, bit, blocked, once, &mut order[..remaining]).is_none() {
             return Assigned::Stuck { remaining };
         }
-        blocked = frames[order[remaining - 1] as usize].ticks.max(blocked);
+        let ticks = frames[order[remaining - 1] as usize].ticks;
+        blocked = ticks.max(blocked);
+        once.ticks -= ticks;
     }
     Assigned::All
 }

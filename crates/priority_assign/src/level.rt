@@ -1,27 +1,62 @@
-ghost use Rattle.std.specs.Prelude.{◌≡◌, ℕ, ◌+◌, ◌<◌, ◌≤◌, length, IfSome, IfNone};
-ghost use Rattle.busy_period.specs.Stage.{AreNamed};
+ghost use Rattle.std.specs.Prelude.{◌≡◌, ℕ, ◌+◌, ◌-◌, ◌<◌, ◌≤◌, ◌^◌, ◌↔◌, length, IsTrue, IfSome, IfNone};
+ghost use Rattle.busy_period.specs.Stage.{AreNamed, own_number, higher_of};
+ghost use Rattle.busy_period.specs.Least.{IsLeast};
+ghost use Rattle.busy_period.specs.Busy.{IsFit};
 ghost use Rattle.response_test.specs.Queueing.{IsBit};
+ghost use Rattle.response_test.specs.Frame.{PassesBlocked};
 ghost use Rattle.priority_assign.specs.Level.{moved_last, PassesAt, IsLastPassing};
+ghost use Rattle.priority_assign.specs.Once.{ticks_of, IsOnce};
 
+use crate::in_time::last_in_time;
+use crate::once::Once;
 use busy_period::{MAX_INSTANCES, Timed, least_fit};
 use response_test::last_passes;
 
 /// The greatest period of a frame, in ticks.
 const MAX_PERIOD: u64 = 100_000_000_000;
 
-/// Moves the last frame of a level that passes with the others of the level higher to the level's end, and says where it
-/// was; lower frames block for `blocked` ticks. None exactly where none passes; the level is as before then. The busy
-/// period is the same for each frame of the level.
-pub(crate) fn choose_last(
+/// Whether the frame at the end of a level passes with the others of the level higher; lower frames block for `blocked`
+/// ticks, and `busy` is the level's busy period. One that is late after `asked` ticks, those that block and one sending
+/// of each frame of the level, is not tested.
+fn end_passes(
+    frames: &[Timed],
+    level: &[u32],
+    blocked: u64,
+    bit: u64,
+    asked: u64,
+    busy: u64,
+) -> bool
+    requires some { 0 < length level.now }
+    requires named { AreNamed frames.now level.now }
+    requires bit { IsBit frames.now bit }
+    requires blocked { blocked ≤ 100000000 }
+    requires asked { asked ≡ blocked + ticks_of frames.now level.now }
+    requires short { asked ≤ 2 ^ 46 }
+    requires busy { IsLeast (IsFit frames.now level.now blocked 0 1) busy }
+    requires limit { busy ≤ 2 ^ 45 }
+    ensures { IsTrue result
+        ↔ PassesBlocked frames.now (own_number level.now (length level.now - 1))
+        (higher_of level.now (length level.now - 1)) blocked bit }
+{
+    let own = frames[level[level.len() - 1] as usize];
+    own.jitter + asked <= own.deadline && last_passes(frames, level, blocked, bit, busy)
+}
+
+/// Chooses as `choose_last` does, by the test of each frame in turn; `asked` is the ticks that block and one sending of
+/// each frame of the level. The busy period is the same for each frame of the level.
+fn choose_tested(
     frames: &[Timed],
     bit: u64,
     blocked: u64,
+    asked: u64,
     level: &mut [u32],
 ) -> Option<usize>
     requires some { 0 < length level.old }
     requires named { AreNamed frames.now level.old }
     requires bit { IsBit frames.now bit }
     requires blocked { blocked ≤ 100000000 }
+    requires asked { asked ≡ blocked + ticks_of frames.now level.old }
+    requires short { asked ≤ 2 ^ 46 }
     ensures chosen { IfSome result (IsLastPassing frames.now level.old blocked bit) }
     ensures moved { IfSome result (λ index. level.new ≡ moved_last level.old index) }
     ensures none { IfNone result ((index : ℕ) → index < length level.old → ¬ (PassesAt frames.now level.old blocked bit index)) }
@@ -29,15 +64,45 @@ pub(crate) fn choose_last(
 {
     let busy = least_fit(frames, level, blocked, 0, 1, MAX_INSTANCES * MAX_PERIOD)?;
     let last = level.len() - 1;
-    if last_passes(frames, level, blocked, bit, busy) {
+    if end_passes(frames, level, blocked, bit, asked, busy) {
         return Some(last);
     }
     for index in (0..last).rev() {
         level.swap(index, last);
-        if last_passes(frames, level, blocked, bit, busy) {
+        if end_passes(frames, level, blocked, bit, asked, busy) {
             return Some(index);
         }
     }
     level.rotate_right(1);
     None
+}
+
+/// Moves the last frame of a level that passes with the others of the level higher to the level's end, and says where it
+/// was; lower frames block for `blocked` ticks, and `once` is what the level's frames ask for once. None exactly where
+/// none passes; the level is as before then. Where each frame asks once in the busy period, none is tested: the frame
+/// passes that ends by its deadline where it ends with the busy period.
+pub(crate) fn choose_last(
+    frames: &[Timed],
+    bit: u64,
+    blocked: u64,
+    once: Once,
+    level: &mut [u32],
+) -> Option<usize>
+    requires some { 0 < length level.old }
+    requires named { AreNamed frames.now level.old }
+    requires bit { IsBit frames.now bit }
+    requires blocked { blocked ≤ 100000000 }
+    requires once { IsOnce frames.now level.old once }
+    ensures chosen { IfSome result (IsLastPassing frames.now level.old blocked bit) }
+    ensures moved { IfSome result (λ index. level.new ≡ moved_last level.old index) }
+    ensures none { IfNone result ((index : ℕ) → index < length level.old → ¬ (PassesAt frames.now level.old blocked bit index)) }
+    ensures same { IfNone result (level.new ≡ level.old) }
+{
+    let asked = blocked + once.ticks;
+    let index = last_in_time(frames, level, asked)?;
+    if asked > once.window {
+        return choose_tested(frames, bit, blocked, asked, level);
+    }
+    level[index..].rotate_left(1);
+    Some(index)
 }

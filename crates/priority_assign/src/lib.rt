@@ -9,8 +9,10 @@
 #![tactic(auto)]
 
 mod assignment;
+mod in_time;
 mod laws;
 mod level;
+mod once;
 #[cfg(test)]
 mod tests;
 

@@ -1,12 +1,14 @@
 use Rattle.std.proofs.Common.{◌≡◌, ℕ, ◌+◌, ◌-◌, ◌<◌, ◌++◌, List, length, take, drop, get_or, not, refl, sym, ◌∙◌, ap, subst, arith, false, is_some}
-use Rattle.std.proofs.lemmas.List.{drop_all}
+use Rattle.std.proofs.lemmas.List.{drop_all, take_all}
 use Rattle.busy_period.specs.Timed.{IsInRange, none_frame, frame_at}
 use Rattle.busy_period.specs.Demand.{blocking_of}
 use Rattle.response_test.specs.Order.{FailSet, OrderPasses}
 use Rattle.response_test.proofs.Order.{no_order_passes}
 use Rattle.priority_assign.specs.Level.{PassesAt}
 use Rattle.priority_assign.specs.Lowest.{FillsLowestFirst, IsLowestFirst}
+use Rattle.priority_assign.specs.Once.{IsOnce}
 use Rattle.priority_assign.proofs.Filling.{Given}
+use Rattle.priority_assign.proofs.SentOnce.{once_less}
 use Rattle.priority_assign.proofs.Steps.{Chosen, chosen_of, where_none, put_back, numbered, all_filled_passes, stuck_is_lowest_first, stuck_is_failing}
 use Rattle.priority_assign.proofs.assignment.assign.Goals as goal
 
@@ -21,6 +23,8 @@ loop-placed-init c =
           (λ index inside. c.number_each.ensures index (omega (arith, long))));
       blocked = ap (blocking_of c.args.frames.now) (sym (drop_all (length order - 0) order (omega arith)));
       bound = omega arith;
+      once = subst (λ numbers. IsOnce c.args.frames.now numbers c.once_of-once.result) (sym (take_all (length order - 0) order (omega arith)))
+          c.once_of-once.ensures;
     }
 
 -- where nothing is chosen the order is as before, and is stuck
@@ -97,6 +101,11 @@ loop-placed-preserved c =
       fills = subst (λ n. FillsLowestFirst c.args.frames.now c.args.bit n now) less it.fills;
       blocked = blocks ∙ ap (λ n. blocking_of c.args.frames.now (drop n now)) less;
       bound = omega (arith, range.ticks, c.max-blocked.ensures, c.loop-placed.invariant.bound);
+      once = subst (λ n. IsOnce c.args.frames.now (take n now)
+          (record { ticks = c.loop-placed.once.ticks - (frame_at c.args.frames.now (get_or now (m - 1) 0)).ticks; window = c.loop-placed.once.window }))
+          less
+          (once_less c.args.frames.now order now m (frame_at c.args.frames.now (get_or now (m - 1) 0)).ticks c.loop-placed.once _ (omega arith)
+          (omega (arith, it.long)) it.same refl refl refl c.loop-placed.invariant.once).1;
     }
 
 -- all places are filled at the end

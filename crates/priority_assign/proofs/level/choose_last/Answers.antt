@@ -1,74 +1,31 @@
-use Rattle.std.proofs.Common.{◌≡◌, ℕ, ◌-◌, inl, inr, length, subst, arith}
-use Rattle.std.proofs.lemmas.Bool.{cases_lt}
-use Rattle.priority_assign.specs.Level.{moved_last, PassesAt}
-use Rattle.priority_assign.proofs.Moved.{moved_last-last, moved_last-step}
-use Rattle.priority_assign.proofs.Levels.{named_moved, least_fit_moved, passes_at_moved, fits_if_passes}
+use Rattle.std.proofs.Common.{ℕ, ◌+◌, ◌-◌, ◌≤◌, All, refl, arith, ap}
+use Rattle.std.proofs.lemmas.List.Elements.{All-weaker}
+use Rattle.busy_period.specs.Timed.{frame_at}
+use Rattle.priority_assign.specs.Once.{IsLastInTime, AskOnce}
+use Rattle.priority_assign.proofs.SentOnce.{in_time_if_passes, passes_if_in_time}
 use Rattle.priority_assign.proofs.level.choose_last.Goals as goal
 
--- the last frame is at the end already
-pub returns-then-last_passes-clause-chosen : goal.returns-then-last_passes-clause-chosen
-returns-then-last_passes-clause-chosen c =
-    let last : ℕ = length c.args.level.now - 1 in
-    record {
-      inside = omega (arith, c.requires.some);
-      passes = (passes_at_moved c.args.frames.now c.args.level.now c.args.level.now c.args.blocked c.args.bit last c.last_passes.result
-          (omega (arith, c.requires.some)) (moved_last-last c.args.level.now last (omega (arith, c.requires.some))) c.last_passes.ensures).0
-          c.if-last_passes.true;
-      none_later = λ later after within. absurd (omega arith);
-    }
-
--- a frame that passes has a busy period
-pub returns-in_err-busy-clause-none : goal.returns-in_err-busy-clause-none
-returns-in_err-busy-clause-none c =
+-- a frame that passes ends by its deadline where each is sent once
+pub returns-in_err-index-clause-none : goal.returns-in_err-index-clause-none
+returns-in_err-index-clause-none c =
     rw c.from_residual.ensures (λ index inside passes.
-    let fits = fits_if_passes c.args.frames.now c.args.level.now c.args.blocked c.args.bit index c.requires.named inside passes in
-    omega (arith, (c.in_err-busy.ensures {u = tt}).none fits.0 fits.1, fits.2))
+    (c.in_err-index.ensures {u = tt}).none index inside
+    (in_time_if_passes c.args.frames.now c.args.level.now c.args.blocked c.args.bit (c.args.blocked + c.args.once.ticks) index
+    c.requires.named c.requires.bit.some inside (omega (arith, c.requires.once.ticks)) passes))
 
--- the level is the old one with the frame at the index moved to its end
-moved : (c : goal.After-slice_known-in-loop-index-1) → c.swap.new.self ≡ moved_last c.args.level.now (c.loop-index.index - 1)
-moved c = moved_last-step c.args.level.now c.loop-index.level c.swap.new.self c.loop-index.index (omega arith) (omega arith)
-    c.loop-index.invariant.moved c.swap.ensures.len c.swap.ensures.by_index
-
-pub last_passes-requires-in-loop-index-clause-named : goal.last_passes-requires-in-loop-index-clause-named
-last_passes-requires-in-loop-index-clause-named c =
-    named_moved c.args.frames.now c.args.level.now c.swap.new.self (c.loop-index.index - 1) (omega arith) (moved c) c.requires.named
-
-pub last_passes-requires-in-loop-index-clause-busy : goal.last_passes-requires-in-loop-index-clause-busy
-last_passes-requires-in-loop-index-clause-busy c =
-    least_fit_moved c.args.frames.now c.args.level.now c.swap.new.self c.args.blocked 0 1 c.in_ok-busy.busy (c.loop-index.index - 1)
-    (omega arith) (moved c) (c.in_ok-busy.ensures {u = tt}).least
-
-pub returns-then-last_passes-2-clause-moved : goal.returns-then-last_passes-2-clause-moved
-returns-then-last_passes-2-clause-moved c =
-    moved_last-step c.args.level.now c.loop-index.level c.swap.new.self c.loop-index.index (omega arith) (omega arith)
-    c.loop-index.invariant.moved c.swap.ensures.len c.swap.ensures.by_index
-
-pub returns-then-last_passes-2-clause-chosen : goal.returns-then-last_passes-2-clause-chosen
-returns-then-last_passes-2-clause-chosen c =
-    let is : c.swap.new.self ≡ moved_last c.args.level.now (c.loop-index.index - 1) =
-    moved_last-step c.args.level.now c.loop-index.level c.swap.new.self c.loop-index.index (omega arith) (omega arith)
-    c.loop-index.invariant.moved c.swap.ensures.len c.swap.ensures.by_index in
+-- and the other way round where the window is long enough
+pub returns-clause-chosen : goal.returns-clause-chosen
+returns-clause-chosen c =
+    let asked : ℕ = c.args.blocked + c.args.once.ticks in
+    let P : ℕ → ℕ → Type 0 = λ time number. time ≤ (frame_at c.args.frames.now number).period - (frame_at c.args.frames.now number).jitter in
+    let once : AskOnce c.args.frames.now c.args.level.now asked =
+    All-weaker (P c.args.once.window) (P asked) (λ number le. omega (arith, le, c.if-asked-once.false)) c.args.level.now c.requires.once.window in
+    let it : IsLastInTime c.args.frames.now c.args.level.now asked c.in_ok-index.index = (c.in_ok-index.ensures {u = tt}).last in
     record {
-      inside = omega arith;
-      passes = (passes_at_moved c.args.frames.now c.args.level.now c.swap.new.self c.args.blocked c.args.bit (c.loop-index.index - 1)
-          c.last_passes-in-loop-index.result (omega arith) is c.last_passes-in-loop-index.ensures).0 c.if-last_passes-2.true;
-      none_later = λ later after within. c.loop-index.invariant.failed later (omega arith) within;
-    }
-
-pub loop-index-preserved : goal.loop-index-preserved
-loop-index-preserved c =
-    let is : c.swap.new.self ≡ moved_last c.args.level.now (c.loop-index.index - 1) =
-    moved_last-step c.args.level.now c.loop-index.level c.swap.new.self c.loop-index.index (omega arith) (omega arith)
-    c.loop-index.invariant.moved c.swap.ensures.len c.swap.ensures.by_index in
-    let fails : PassesAt c.args.frames.now c.args.level.now c.args.blocked c.args.bit (c.loop-index.index - 1) → ⊥ = λ passes.
-    let it = (passes_at_moved c.args.frames.now c.args.level.now c.swap.new.self c.args.blocked c.args.bit (c.loop-index.index - 1)
-    c.last_passes-in-loop-index.result (omega arith) is c.last_passes-in-loop-index.ensures).1 passes in cc in
-    record {
-      moved = is;
-      failed = λ k from within passes. elim (cases_lt (c.loop-index.index - 1) k) [
-        | inl later ↦ c.loop-index.invariant.failed k (omega arith) within passes
-        | inr here ↦
-            let same : k ≡ c.loop-index.index - 1 = omega arith in
-            fails (subst (PassesAt c.args.frames.now c.args.level.now c.args.blocked c.args.bit) same passes)
-      ];
+      inside = it.inside;
+      passes = passes_if_in_time c.args.frames.now c.args.level.now c.args.blocked c.args.bit asked c.in_ok-index.index
+          c.requires.named c.requires.bit it.inside (omega (arith, c.requires.once.ticks)) once it.in_time;
+      none_later = λ later after inside passes. it.none_later later after inside
+          (in_time_if_passes c.args.frames.now c.args.level.now c.args.blocked c.args.bit asked later c.requires.named c.requires.bit.some
+          inside (omega (arith, c.requires.once.ticks)) passes);
     }

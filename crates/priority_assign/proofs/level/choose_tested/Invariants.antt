@@ -1,6 +1,6 @@
 use Rattle.std.proofs.Common.{◌≡◌, ℕ, ◌<◌, ◌≤◌, length}
 use Rattle.priority_assign.specs.Level.{moved_last, PassesAt}
-use Rattle.priority_assign.proofs.level.choose_last.Given as goal
+use Rattle.priority_assign.proofs.level.choose_tested.Given as goal
 
 -- the entry that was tried last is at the end, and it and those after it fail
 abbrev pub invariant-loop-index : goal.invariant-loop-index
