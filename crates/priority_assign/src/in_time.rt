@@ -5,10 +5,10 @@ ghost use Rattle.priority_assign.specs.Once.{IsOnce, EndsInTime, IsLastInTime};
 use crate::once::Once;
 use busy_period::Timed;
 
-/// What the frames of these numbers ask for once, and the longest time within which none of them asks twice.
+/// What the frames of these numbers ask for; no busy period is known.
 pub(crate) fn once_of(frames: &[Timed], numbers: &[u32]) -> Once
     requires { AreNamed frames.now numbers.now }
-    ensures { IsOnce frames.now numbers.now result }
+    ensures { IsOnce frames.now numbers.now 0 result }
 {
     let mut ticks = 0;
     let mut window = u64::MAX;
@@ -17,7 +17,11 @@ pub(crate) fn once_of(frames: &[Timed], numbers: &[u32]) -> Once
         ticks += frame.ticks;
         window = window.min(frame.period.saturating_sub(frame.jitter));
     }
-    Once { ticks, window }
+    Once {
+        ticks,
+        window,
+        busy: None,
+    }
 }
 
 /// The last frame of a level that ends by its deadline where it ends with the level's busy period of `busy` ticks, which

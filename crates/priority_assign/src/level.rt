@@ -8,7 +8,7 @@ ghost use Rattle.priority_assign.specs.Level.{moved_last, PassesAt, IsLastPassin
 ghost use Rattle.priority_assign.specs.Once.{ticks_of, IsOnce};
 
 use crate::in_time::last_in_time;
-use crate::once::Once;
+use crate::once::{Once, busy_by, ends_with};
 use busy_period::{MAX_INSTANCES, Timed, least_fit};
 use response_test::last_passes;
 
@@ -42,13 +42,14 @@ fn end_passes(
     own.jitter + asked <= own.deadline && last_passes(frames, level, blocked, bit, busy)
 }
 
-/// Chooses as `choose_last` does, by the test of each frame in turn; `asked` is the ticks that block and one sending of
-/// each frame of the level. The busy period is the same for each frame of the level.
+/// Chooses as `choose_last` does, by the test of each frame in turn. `asked` is the ticks that block and one sending of
+/// each frame of the level, and `busy` the level's busy period.
 fn choose_tested(
     frames: &[Timed],
     bit: u64,
     blocked: u64,
     asked: u64,
+    busy: u64,
     level: &mut [u32],
 ) -> Option<usize>
     requires some { 0 < length level.old }
@@ -57,12 +58,13 @@ fn choose_tested(
     requires blocked { blocked ≤ 100000000 }
     requires asked { asked ≡ blocked + ticks_of frames.now level.old }
     requires short { asked ≤ 2 ^ 46 }
+    requires busy { IsLeast (IsFit frames.now level.old blocked 0 1) busy }
+    requires limit { busy ≤ 2 ^ 45 }
     ensures chosen { IfSome result (IsLastPassing frames.now level.old blocked bit) }
     ensures moved { IfSome result (λ index. level.new ≡ moved_last level.old index) }
     ensures none { IfNone result ((index : ℕ) → index < length level.old → ¬ (PassesAt frames.now level.old blocked bit index)) }
     ensures same { IfNone result (level.new ≡ level.old) }
 {
-    let busy = least_fit(frames, level, blocked, 0, 1, MAX_INSTANCES * MAX_PERIOD)?;
     let last = level.len() - 1;
     if end_passes(frames, level, blocked, bit, asked, busy) {
         return Some(last);
@@ -78,31 +80,36 @@ fn choose_tested(
 }
 
 /// Moves the last frame of a level that passes with the others of the level higher to the level's end, and says where it
-/// was; lower frames block for `blocked` ticks, and `once` is what the level's frames ask for once. None exactly where
-/// none passes; the level is as before then. Where each frame asks once in the busy period, none is tested: the frame
-/// passes that ends by its deadline where it ends with the busy period.
+/// was; lower frames block for `blocked` ticks, and `once` is what the level's frames ask for. None exactly where none
+/// passes; the level is as before then. A frame that is late even if each of the level is sent once fails; the last
+/// other one passes where it ends by its deadline with a busy period of the level. The least one is asked for where none
+/// that is known tells, and is known from then on.
 pub(crate) fn choose_last(
     frames: &[Timed],
     bit: u64,
     blocked: u64,
-    once: Once,
+    once: &mut Once,
     level: &mut [u32],
 ) -> Option<usize>
     requires some { 0 < length level.old }
     requires named { AreNamed frames.now level.old }
     requires bit { IsBit frames.now bit }
     requires blocked { blocked ≤ 100000000 }
-    requires once { IsOnce frames.now level.old once }
+    requires once { IsOnce frames.now level.old blocked once.old }
     ensures chosen { IfSome result (IsLastPassing frames.now level.old blocked bit) }
     ensures moved { IfSome result (λ index. level.new ≡ moved_last level.old index) }
     ensures none { IfNone result ((index : ℕ) → index < length level.old → ¬ (PassesAt frames.now level.old blocked bit index)) }
     ensures same { IfNone result (level.new ≡ level.old) }
+    ensures once { IsOnce frames.now level.old blocked once.new }
 {
     let asked = blocked + once.ticks;
     let index = last_in_time(frames, level, asked)?;
-    if asked > once.window {
-        return choose_tested(frames, bit, blocked, asked, level);
+    let own = frames[level[index] as usize];
+    if ends_with(own, busy_by(*once, asked)) {
+        level[index..].rotate_left(1);
+        return Some(index);
     }
-    level[index..].rotate_left(1);
-    Some(index)
+    let busy = least_fit(frames, level, blocked, 0, 1, MAX_INSTANCES * MAX_PERIOD)?;
+    once.busy = Some(busy);
+    choose_tested(frames, bit, blocked, asked, busy, level)
 }

@@ -2,7 +2,7 @@ use Rattle.std.proofs.Common.{◌≡◌, ℕ, ◌-◌, inl, inr, length, subst, 
 use Rattle.std.proofs.lemmas.Bool.{cases_lt}
 use Rattle.priority_assign.specs.Level.{moved_last, PassesAt}
 use Rattle.priority_assign.proofs.Moved.{moved_last-last, moved_last-step}
-use Rattle.priority_assign.proofs.Levels.{named_moved, least_fit_moved, passes_at_moved, fits_if_passes}
+use Rattle.priority_assign.proofs.Levels.{named_moved, least_fit_moved, passes_at_moved}
 use Rattle.priority_assign.proofs.SentOnce.{ticks_moved}
 use Rattle.priority_assign.proofs.level.choose_tested.Goals as goal
 
@@ -17,13 +17,6 @@ returns-then-end_passes-clause-chosen c =
           c.if-end_passes.true;
       none_later = λ later after within. absurd (omega arith);
     }
-
--- a frame that passes has a busy period
-pub returns-in_err-busy-clause-none : goal.returns-in_err-busy-clause-none
-returns-in_err-busy-clause-none c =
-    rw c.from_residual.ensures (λ index inside passes.
-    let fits = fits_if_passes c.args.frames.now c.args.level.now c.args.blocked c.args.bit index c.requires.named inside passes in
-    omega (arith, (c.in_err-busy.ensures {u = tt}).none fits.0 fits.1, fits.2))
 
 -- the level is the old one with the frame at the index moved to its end
 moved : (c : goal.After-slice_known-in-loop-index-1) → c.swap.new.self ≡ moved_last c.args.level.now (c.loop-index.index - 1)
@@ -41,8 +34,8 @@ end_passes-requires-in-loop-index-clause-asked c =
 
 pub end_passes-requires-in-loop-index-clause-busy : goal.end_passes-requires-in-loop-index-clause-busy
 end_passes-requires-in-loop-index-clause-busy c =
-    least_fit_moved c.args.frames.now c.args.level.now c.swap.new.self c.args.blocked 0 1 c.in_ok-busy.busy (c.loop-index.index - 1)
-    (omega arith) (moved c) (c.in_ok-busy.ensures {u = tt}).least
+    least_fit_moved c.args.frames.now c.args.level.now c.swap.new.self c.args.blocked 0 1 c.args.busy (c.loop-index.index - 1)
+    (omega arith) (moved c) c.requires.busy
 
 pub returns-then-end_passes-2-clause-moved : goal.returns-then-end_passes-2-clause-moved
 returns-then-end_passes-2-clause-moved c =
