@@ -23,17 +23,17 @@ loads_fit problem stands items of p partial small =
       small,
     )
 
--- and so does 8 times the load that a partial grouping keeps
-pub kept_fits : (problem : Parts) (partial : Partial) → Belongs problem partial
-    → load8_of problem (range_of problem partial) (labels_of partial) < 2 ^ 128
-kept_fits problem partial belongs =
+-- and so does 8 times the load of other labels of a partial grouping's items
+pub range_fits : (problem : Parts) (partial : Partial) (labels : List ℕ) → Belongs problem partial
+    → IsPartial (range_of problem partial) labels
+    → load8_of problem (range_of problem partial) labels < 2 ^ 128
+range_fits problem partial labels belongs legal =
     loads_fit problem belongs.stands (range_of problem partial)
     (in_range (Contains problem.items) partial.first partial.many problem.items belongs.inside
     (All-contains_itself problem.items))
-    (labels_of partial) belongs.legal
-    (omega (
-      arith,
-      belongs.legal.within,
-      long problem partial belongs,
-      few problem partial belongs,
-    ))
+    labels legal (omega (arith, legal.within, long problem partial belongs, few problem partial belongs))
+
+-- and of its own
+pub kept_fits : (problem : Parts) (partial : Partial) → Belongs problem partial
+    → load8_of problem (range_of problem partial) (labels_of partial) < 2 ^ 128
+kept_fits problem partial belongs = range_fits problem partial (labels_of partial) belongs belongs.legal

@@ -31,7 +31,7 @@ pub fn lower8(partial: &Partial, problem: &Problem, lemmas: &[u128]) -> u128
     for place in (placed..items.len()).rev() {
         rest = rest.with_item(problem, items, place, lemmas);
     }
-    rest.lower8(partial)
+    rest.lower8(partial.kept_load(), partial.kept_slack())
 }
 
 /// A load in eighths is below 2 to the power of 128, and so is the bound.

@@ -1,9 +1,11 @@
 //! What the items that are not placed cost at least, and the lower bound by it.
-ghost use Rattle.std.specs.Prelude.{◌≡◌, ◌≤◌, ◌<◌, ◌+◌, ◌↔◌, ℕ, List, Option, Some, length, take, slice_index_or, count_by, nat_eq, nat_lt, Contains, IfOk, IfSome, IsTrue};
+ghost use Rattle.std.specs.Prelude.{◌≡◌, ◌≤◌, ◌<◌, ◌+◌, ◌*◌, ◌^◌, ◌↔◌, ◌++◌, ◌∷◌, [], ℕ, List, Option, Some, length, take, slice_index_or, count_by, nat_eq, nat_lt, Contains, IfOk, IfSome, IsTrue};
 ghost use Rattle.pack_model.specs.Problem.{IsProblem, Parts};
 ghost use Rattle.pack_model.specs.declared.item.Item.{Item};
+ghost use Rattle.class_frame.specs.Classes.{load_of};
 ghost use Rattle.grouping_tree.specs.Grouped.{Belongs, items_in, labels_of, range_of, sender_of};
-ghost use Rattle.grouping_tree.specs.Slack.{last_sender};
+ghost use Rattle.grouping_tree.specs.Partial.{IsPartial};
+ghost use Rattle.grouping_tree.specs.Slack.{last_sender, sender_in_work, slack_in_work};
 ghost use Rattle.bandwidth_bound.specs.Floors.{AreFloors, AreInRange, HasTables, IsRest, floors_room};
 ghost use Rattle.bandwidth_bound.specs.Prices.{lower8_of, price_of};
 
@@ -59,7 +61,26 @@ impl Floors {
             → AreFloors problem (sender_of partial.now) values self.now
             → result ≡ lower8_of problem values (range_of problem partial.now) (labels_of partial.now) }
     {
-        self.rests[partial.labels().len()].lower8(partial)
+        let rest = self.rests[partial.labels().len()];
+        rest.lower8(partial.kept_load(), partial.kept_slack())
+    }
+
+    /// The lower bound once the next item has a label, one that may be put next, in eighths of ticks a common
+    /// period, for every problem and all values of lemmas that the tables are of. It takes no memory, and goes
+    /// over nothing.
+    pub fn lower8_ahead(&self, partial: &Partial, label: u32) -> u128
+        requires { (problem : Parts) × (values : List ℕ) × Belongs problem partial.now
+            × IsPartial (range_of problem partial.now) (labels_of partial.now ++ label ∷ [])
+            × AreFloors problem (sender_of partial.now) values self.now }
+        ensures { (problem : Parts) (values : List ℕ) → Belongs problem partial.now
+            → IsPartial (range_of problem partial.now) (labels_of partial.now ++ label ∷ [])
+            → AreFloors problem (sender_of partial.now) values self.now
+            → result ≡ lower8_of problem values (range_of problem partial.now)
+            (labels_of partial.now ++ label ∷ []) }
+    {
+        let ahead = partial.ahead(label);
+        let rest = self.rests[partial.labels().len() + 1];
+        rest.lower8(ahead.load, ahead.slack)
     }
 }
 
@@ -104,16 +125,18 @@ impl Rest {
         }
     }
 
-    /// The lower bound at a partial grouping after which this is left.
-    pub fn lower8(self, partial: &Partial) -> u128
-        requires { (problem : Parts) × Belongs problem partial.now }
-        ensures { (problem : Parts) (values : List ℕ) → Belongs problem partial.now
-            → IsRest problem values (range_of problem partial.now) (length (labels_of partial.now)) self
-            → result ≡ lower8_of problem values (range_of problem partial.now) (labels_of partial.now) }
+    /// The lower bound after which this is left, where the loads of the classes come to `load` ticks a common
+    /// period, and the slacks of those of the sender in work to `slack` eighths of ticks.
+    pub fn lower8(self, load: u128, slack: u128) -> u128
+        requires { 8 * load < 2 ^ 128 }
+        ensures { (problem : Parts) (values : List ℕ) (items : List Item) (labels : List ℕ)
+            → load ≡ load_of problem items labels
+            → slack ≡ slack_in_work problem items labels (sender_in_work items labels)
+            → IsRest problem values items (length labels) self → result ≡ lower8_of problem values items labels }
     {
-        let left = self.left.saturating_sub(partial.kept_slack());
-        let load = 8 * partial.kept_load();
-        load.saturating_add(left).saturating_add(self.later)
+        let left = self.left.saturating_sub(slack);
+        let load8 = 8 * load;
+        load8.saturating_add(left).saturating_add(self.later)
     }
 }
 

@@ -13,7 +13,7 @@ pub use laws::{
     classes_extend, classes_grow, fronts_are_legal, full_is_legal, legal_is_partial, new_is_option,
     next_is_option, options_are_legal, options_ascend,
 };
-pub use partial::{Kept, Partial};
+pub use partial::{Ahead, Kept, Partial};
 
 #[cfg(test)]
 mod tests;

@@ -449,6 +449,27 @@ impl Partial {
         self.slack
     }
 
+    /// What all classes come to once the next item has a label, one that may be put next, for every problem
+    /// to which the partial grouping belongs. It takes no memory and changes nothing.
+    pub fn ahead(&self, label: u32) -> Ahead
+        requires { (problem : Parts) × Belongs problem self.now
+            × IsPartial (range_of problem self.now) (labels_of self.now ++ label ∷ []) }
+        ensures load { (problem : Parts) → Belongs problem self.now
+            → IsPartial (range_of problem self.now) (labels_of self.now ++ label ∷ [])
+            → result.load ≡ load_of problem (range_of problem self.now) (labels_of self.now ++ label ∷ []) }
+        ensures slack { (problem : Parts) → Belongs problem self.now
+            → IsPartial (range_of problem self.now) (labels_of self.now ++ label ∷ [])
+            → result.slack ≡ slack_in_work problem (range_of problem self.now) (labels_of self.now ++ label ∷ [])
+            (sender_in_work (range_of problem self.now) (labels_of self.now ++ label ∷ [])) }
+    {
+        let before = self.state(label);
+        let after = self.with_next(label, before);
+        Ahead {
+            load: after.load,
+            slack: after.slack,
+        }
+    }
+
     /// The classes as frames, by label, in ticks, for every problem to which the partial grouping belongs.
     pub fn frames(&self) -> &[Timed]
         requires { (problem : Parts) × Belongs problem self.now }
@@ -490,6 +511,15 @@ impl Partial {
     {
         self.kept(label).weight
     }
+}
+
+/// What all classes come to once the next item has a label.
+#[derive(Clone, Copy, Debug, PartialEq, Eq)]
+pub struct Ahead {
+    /// Their loads together, in ticks a common period.
+    pub load: u128,
+    /// The slacks of the classes of the sender in work then, in eighths of ticks a common period.
+    pub slack: u128,
 }
 
 /// What is kept of a class.

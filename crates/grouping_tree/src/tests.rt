@@ -3,7 +3,7 @@ ghost use Rattle.std.specs.Prelude.{◌≡◌, ◌≤◌};
 ghost use Rattle.pack_model.specs.Signal.{SignalStands};
 ghost use Rattle.grouping_tree.specs.Grouped.{Belongs, range_of};
 
-use crate::Partial;
+use crate::{Ahead, Partial};
 use pack_model::{Name, Network, Problem, Signal, problem_of};
 use std::alloc::Global;
 use std::process::Abort;
@@ -56,6 +56,14 @@ fn go_down(partial: &mut Partial, problem: &Problem)
     }
 }
 
+/// What all classes come to with the least option that is at least `from`, if there is one.
+fn ahead_from(partial: &Partial, problem: &Problem, from: u32) -> Option<Ahead>
+    requires { Belongs problem.now partial.now }
+{
+    let label = partial.next_option(problem, from)?;
+    Some(partial.ahead(label))
+}
+
 /// Signals of half a byte share a frame of one byte, which takes 7000 ticks; apart each leaves 4 bits free, of 10 times 40
 /// eighths each.
 #[test]
@@ -67,6 +75,20 @@ fn together_and_apart(rt: HostRuntime) {
     go_down(&mut partial, &problem);
     assert_eq!(rt; partial.kept_load(), 7000);
     assert_eq!(rt; partial.kept_slack(), 1600);
+    assert_eq!(rt;
+        ahead_from(&partial, &problem, 0),
+        Some(Ahead {
+            load: 7000,
+            slack: 0
+        })
+    );
+    assert_eq!(rt;
+        ahead_from(&partial, &problem, 1),
+        Some(Ahead {
+            load: 14000,
+            slack: 3200
+        })
+    );
     go_down(&mut partial, &problem);
     assert_eq!(rt; partial.options(&problem), 0);
     assert_eq!(rt; partial.kept_load(), 7000);
