@@ -1,17 +1,18 @@
 -- What is known of a frame by one sending of each frame of its level, and by any busy period of the level.
-use Rattle.std.proofs.Common.{◌≡◌, ℕ, ◌+◌, ◌-◌, ◌*◌, ◌<◌, ◌≤◌, ◌↔◌, List, [], ◌∷◌, ◌++◌, length, take, drop, get_or, suc, All, Bool, true, false, cond, leb, Option, Some, None, IfSome, max, min, sum_by, refl, add-zero, length-take, sym, ◌∙◌, ap, subst, arith}
-use Rattle.std.specs.Option.{IsSomeAnd}
+use Rattle.std.proofs.Common.{◌≡◌, ℕ, ◌+◌, ◌-◌, ◌*◌, ◌<◌, ◌≤◌, ◌⊎◌, inl, inr, List, [], ◌∷◌, ◌++◌, length, take, drop, get_or, suc, All, Bool, true, false, cond, leb, Option, Some, None, IfSome, max, min, sum_by, refl, add-zero, length-take, sym, ◌∙◌, ap, subst, arith}
+use Rattle.std.specs.Option.{IsSomeAnd, unwrap_or}
 use Rattle.std.specs.List.{remove}
 use Rattle.std.specs.List.Sorted.{IsPermutation}
 use Rattle.std.proofs.lemmas.Bool.{leb-true}
 use Rattle.std.proofs.lemmas.List.{append-nil, drop_all, get_or-take, take-take}
 use Rattle.std.proofs.lemmas.List.Elements.{All-head, All-tail, All-take, All-drop, All-append, All-get_or, All-from_get_or, All-weaker}
 use Rattle.std.proofs.lemmas.List.Sums.{sum_by-cons, sum_by-remove, sum_by_more, get_or-le-sum_by}
-use Rattle.std.proofs.lemmas.List.Sorted.{sum_by-IsPermutation, All-permutation}
+use Rattle.std.proofs.lemmas.List.Sorted.{sum_by-IsPermutation, All-permutation, IsPermutation-sym}
 use Rattle.std.proofs.Math.Nat.{mul-le-mul_right}
 use Rattle.busy_period.specs.declared.timed.Timed.{Timed}
 use Rattle.busy_period.specs.Timed.{IsInRange, none_frame, frame_at}
-use Rattle.busy_period.specs.Stage.{AreNamed, own_number, higher_of}
+use Rattle.busy_period.specs.Stage.{AreNamed, own_number, own_of, higher_of}
+use Rattle.busy_period.specs.Least.{IsLeast}
 use Rattle.busy_period.specs.Demand.{instances_of, asks_of, work_of}
 use Rattle.busy_period.specs.Busy.{IsBusy, IsFit}
 use Rattle.busy_period.proofs.Instances.{quotient-le}
@@ -26,7 +27,9 @@ use Rattle.priority_assign.specs.Level.{moved_last, PassesAt}
 use Rattle.priority_assign.specs.declared.once.Once.{Once}
 use Rattle.priority_assign.specs.Once.{ticks_of, AskOnce, IsOnce, EndsInTime}
 use Rattle.priority_assign.proofs.Moved.{moved_last-permutation}
-use Rattle.priority_assign.proofs.Levels.{named_permuted}
+use Rattle.priority_assign.specs.declared.level.Times.{Times}
+use Rattle.priority_assign.specs.Times.{NoneBefore, AreTimes, IsLateByLevel}
+use Rattle.priority_assign.proofs.Levels.{named_permuted, fit_permuted, least_fit_moved}
 
 -- in a tick or more a frame asks for a sending
 asks_some : (frame : Timed) (time : ℕ) → IsInRange frame → 1 ≤ time → frame.ticks ≤ asks_of frame time
@@ -166,7 +169,7 @@ passes_by_known frames level blocked bit index (Some busy) named is_bit inside f
     passes_by_fit frames level blocked bit busy index named is_bit inside fit early
 
 -- the ticks of a level with one of its frames moved to its end
-pub ticks_moved : (frames : List Timed) (level now : List ℕ) (asked blocked index : ℕ) → index < length level
+ticks_moved : (frames : List Timed) (level now : List ℕ) (asked blocked index : ℕ) → index < length level
     → now ≡ moved_last level index → asked ≡ blocked + ticks_of frames level → asked ≡ blocked + ticks_of frames now
 ticks_moved frames level now asked blocked index inside was is =
     omega (
@@ -228,14 +231,85 @@ once_less frames order now m blocked blocked' once less some within same named i
           (known_less frames order now m blocked blocked' once.busy some within same named is it.busy);
     }
 
--- a frame at the end of its level that passes is not late by the ticks that are asked for once
-pub in_time_at_end : (frames : List Timed) (level : List ℕ) (blocked bit asked : ℕ) → AreNamed frames level → 1 ≤ bit
-    → 0 < length level → asked ≡ blocked + ticks_of frames level
+-- a frame that passes with one instance by its deadline is not late by what the level asks for
+in_time_by_level : (frames : List Timed) (level : List ℕ) (blocked bit first index : ℕ) → AreNamed frames level → IsBit frames bit
+    → index < length level → NoneBefore frames level first → PassesAt frames level blocked bit index
+    → ¬ (IsLateByLevel (frame_at frames (get_or level index 0)) blocked bit first)
+in_time_by_level frames level blocked bit first index named is_bit inside none it late =
+    let number : ℕ = get_or level index 0 in
+    let own : Timed = frame_at frames number in
+    let others : List ℕ = remove level index in
+    let range : IsInRange own = named_is_in_range frames level index named inside in
+    let start : InstancePassesBlocked frames number others blocked bit 0 =
+    it.each 0 (some_instance own it.busy it.least.busy.holds.some range.some_period) in
+    let time : ℕ = start.start + bit in
+    let bit_le : bit ≤ own.ticks =
+    All-get_or (λ frame. bit ≤ frame.ticks) frames number none_frame
+    (All-get_or (λ n. n < length frames) level index 0 inside named.named) is_bit.within in
+    let some : 1 ≤ time = omega (arith, is_bit.some) in
+    let once : asks_of own time ≤ own.ticks =
+    asks_once own time range some (omega (arith, start.in_time, late.one, bit_le)) in
+    let whole : work_of frames others time + asks_of own time ≡ work_of frames level time =
+    sum_by-remove (λ n. asks_of (frame_at frames n) time) level index 0 inside in
+    let before : first ≤ time =
+    none time
+    (record {
+      begun = some;
+      done = omega (arith, start.least.holds, late.blocks, once, whole, ap (work_of frames level) (add-zero time));
+    }) in
+    omega (arith, before, start.in_time, late.late)
+
+-- the test of the frame at the end of a level is that of its index
+at_end : (frames : List Timed) (level : List ℕ) (blocked bit : ℕ) → 0 < length level
     → PassesBlocked frames (own_number level (length level - 1)) (higher_of level (length level - 1)) blocked bit
-    → EndsInTime frames level asked (length level - 1)
-in_time_at_end frames level blocked bit asked named some_bit some is passes =
+    → PassesAt frames level blocked bit (length level - 1)
+at_end frames level blocked bit some passes =
     let last : ℕ = length level - 1 in
     let none : drop (suc last) level ≡ [] = drop_all (suc last) level (omega arith) in
     let others : remove level last ≡ take last level = ap (λ rest. take last level ++ rest) none ∙ append-nil (take last level) in
     let P : List ℕ → Type 0 = λ above. PassesBlocked frames (get_or level last 0) above blocked bit in
-    in_time_if_passes frames level blocked bit asked last named some_bit (omega arith) is (subst P (sym others) passes)
+    subst P (sym others) passes
+
+-- a frame at the end of its level that is late by a time of the level does not pass
+pub late_at_end : (frames : List Timed) (level : List ℕ) (blocked bit : ℕ) (times : Times) → AreNamed frames level → IsBit frames bit
+    → 0 < length level → AreTimes frames level blocked times
+    → ((own_of frames level (length level - 1)).deadline < (own_of frames level (length level - 1)).jitter + times.asked)
+    ⊎ IsLateByLevel (own_of frames level (length level - 1)) blocked bit times.first
+    → ¬ (PassesBlocked frames (own_number level (length level - 1)) (higher_of level (length level - 1)) blocked bit)
+late_at_end frames level blocked bit times named is_bit some are (inl late) passes =
+    omega (
+      arith,
+      late,
+      in_time_if_passes frames level blocked bit times.asked (length level - 1) named is_bit.some (omega arith) are.asked
+          (at_end frames level blocked bit some passes),
+    )
+late_at_end frames level blocked bit times named is_bit some are (inr late) passes =
+    in_time_by_level frames level blocked bit times.first (length level - 1) named is_bit (omega arith) are.first
+    (at_end frames level blocked bit some passes) late
+
+-- the times of a level with one of its frames moved to its end
+pub times_moved : (frames : List Timed) (level now : List ℕ) (blocked index : ℕ) (times : Times) → index < length level
+    → now ≡ moved_last level index → AreTimes frames level blocked times → AreTimes frames now blocked times
+times_moved frames level now blocked index times inside was are =
+    let same : IsPermutation level (moved_last level index) = moved_last-permutation level index inside in
+    record {
+      asked = ticks_moved frames level now times.asked blocked index inside was are.asked;
+      short = are.short;
+      first = λ time fit.
+          let P : List ℕ → Type 0 = λ numbers. IsFit frames numbers 0 0 1 time in
+          are.first time
+          (fit_permuted frames (moved_last level index) level 0 0 1 time (IsPermutation-sym level (moved_last level index) same) (subst P was fit));
+      low = are.low;
+      busy = least_fit_moved frames level now blocked 0 1 times.busy index inside was are.busy;
+      limit = are.limit;
+    }
+
+-- the time that a climb finds is the first; 0 is before each
+pub first_of : (frames : List Timed) (level : List ℕ) (found : Option ℕ) → IfSome found (IsLeast (IsFit frames level 0 0 1))
+    → NoneBefore frames level (unwrap_or found 0)
+first_of frames level None least time fit = omega arith
+first_of frames level (Some first) least time fit = least.least time fit
+
+pub first_low : (found : Option ℕ) (limit : ℕ) → IfSome found (λ time. time ≤ limit) → unwrap_or found 0 ≤ limit
+first_low None limit within = omega arith
+first_low (Some first) limit within = within

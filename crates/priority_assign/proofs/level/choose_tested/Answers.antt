@@ -2,8 +2,8 @@ use Rattle.std.proofs.Common.{◌≡◌, ℕ, ◌-◌, inl, inr, length, subst, 
 use Rattle.std.proofs.lemmas.Bool.{cases_lt}
 use Rattle.priority_assign.specs.Level.{moved_last, PassesAt}
 use Rattle.priority_assign.proofs.Moved.{moved_last-last, moved_last-step}
-use Rattle.priority_assign.proofs.Levels.{named_moved, least_fit_moved, passes_at_moved}
-use Rattle.priority_assign.proofs.SentOnce.{ticks_moved}
+use Rattle.priority_assign.proofs.Levels.{named_moved, passes_at_moved}
+use Rattle.priority_assign.proofs.SentOnce.{times_moved}
 use Rattle.priority_assign.proofs.level.choose_tested.Goals as goal
 
 -- the last frame is at the end already
@@ -27,15 +27,10 @@ pub end_passes-requires-in-loop-index-clause-named : goal.end_passes-requires-in
 end_passes-requires-in-loop-index-clause-named c =
     named_moved c.args.frames.now c.args.level.now c.swap.new.self (c.loop-index.index - 1) (omega arith) (moved c) c.requires.named
 
-pub end_passes-requires-in-loop-index-clause-asked : goal.end_passes-requires-in-loop-index-clause-asked
-end_passes-requires-in-loop-index-clause-asked c =
-    ticks_moved c.args.frames.now c.args.level.now c.swap.new.self c.args.asked c.args.blocked (c.loop-index.index - 1) (omega arith) (moved c)
-    c.requires.asked
-
-pub end_passes-requires-in-loop-index-clause-busy : goal.end_passes-requires-in-loop-index-clause-busy
-end_passes-requires-in-loop-index-clause-busy c =
-    least_fit_moved c.args.frames.now c.args.level.now c.swap.new.self c.args.blocked 0 1 c.args.busy (c.loop-index.index - 1)
-    (omega arith) (moved c) c.requires.busy
+pub end_passes-requires-in-loop-index-clause-times : goal.end_passes-requires-in-loop-index-clause-times
+end_passes-requires-in-loop-index-clause-times c =
+    times_moved c.args.frames.now c.args.level.now c.swap.new.self c.args.blocked (c.loop-index.index - 1) c.args.times (omega arith) (moved c)
+    c.requires.times
 
 pub returns-then-end_passes-2-clause-moved : goal.returns-then-end_passes-2-clause-moved
 returns-then-end_passes-2-clause-moved c =
