@@ -31,7 +31,13 @@ pub trait Judge {
             ≡ bound_of self.now problem.now (range_of problem.now partial.now) (labels_of partial.now) };
 
     /// Whether the lower bound reaches the best load once the next item has a label that may be put next.
-    fn is_bounded(&self, problem: &Problem, partial: &Partial, label: u32, best: Option<u128>) -> bool
+    fn is_bounded(
+        &self,
+        problem: &Problem,
+        partial: &Partial,
+        label: u32,
+        best: Option<u128>,
+    ) -> bool
         requires belongs { Belongs problem.now partial.now }
         requires suits { suits self.now problem.now (range_of problem.now partial.now) }
         requires legal { IsPartial (range_of problem.now partial.now) (labels_of partial.now ++ label ∷ []) }
