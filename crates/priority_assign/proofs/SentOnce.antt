@@ -45,7 +45,8 @@ asks_once frame time range some within =
     omega (arith, mul-le-mul_right frame.ticks few)
 
 -- and so do some frames together
-work_some : (frames : List Timed) (numbers : List ℕ) (time : ℕ) → All (λ number. IsInRange (frame_at frames number)) numbers
+work_some : (frames : List Timed) (numbers : List ℕ) (time : ℕ)
+    → All (λ number. IsInRange (frame_at frames number)) numbers
     → 1 ≤ time → ticks_of frames numbers ≤ work_of frames numbers time
 work_some frames [] time ranges some = omega arith
 work_some frames (x ∷ xs) time ranges some =
@@ -57,7 +58,8 @@ work_some frames (x ∷ xs) time ranges some =
       asks_some (frame_at frames x) time (All-head (λ number. IsInRange (frame_at frames number)) x xs ranges) some,
     )
 
-work_once : (frames : List Timed) (numbers : List ℕ) (time : ℕ) → All (λ number. IsInRange (frame_at frames number)) numbers
+work_once : (frames : List Timed) (numbers : List ℕ) (time : ℕ)
+    → All (λ number. IsInRange (frame_at frames number)) numbers
     → 1 ≤ time → AskOnce frames numbers time → work_of frames numbers time ≤ ticks_of frames numbers
 work_once frames [] time ranges some once = omega arith
 work_once frames (x ∷ xs) time ranges some once =
@@ -83,7 +85,8 @@ level_ranges frames level named =
     (λ i inside. named_is_in_range frames level i named inside)
 
 -- a frame that passes ends by its deadline where the frame that blocks, all frames of the level and itself are sent once
-pub in_time_if_passes : (frames : List Timed) (level : List ℕ) (blocked bit busy index : ℕ) → AreNamed frames level → 1 ≤ bit
+pub in_time_if_passes : (frames : List Timed) (level : List ℕ) (blocked bit busy index : ℕ)
+    → AreNamed frames level → 1 ≤ bit
     → index < length level → busy ≡ blocked + ticks_of frames level → PassesAt frames level blocked bit index
     → EndsInTime frames level busy index
 in_time_if_passes frames level blocked bit busy index named some inside is it =
@@ -133,7 +136,8 @@ known_fit frames level blocked asked index once known named inside is it =
     ] refl
 
 -- a frame that ends by its deadline with a busy period of its level passes
-passes_by_fit : (frames : List Timed) (level : List ℕ) (blocked bit busy index : ℕ) → AreNamed frames level → IsBit frames bit
+passes_by_fit : (frames : List Timed) (level : List ℕ) (blocked bit busy index : ℕ)
+    → AreNamed frames level → IsBit frames bit
     → index < length level → IsFit frames level blocked 0 1 busy
     → busy ≤ min (frame_at frames (get_or level index 0)).deadline (256 * (frame_at frames (get_or level index 0)).period)
     - (frame_at frames (get_or level index 0)).jitter
@@ -158,7 +162,8 @@ passes_by_fit frames level blocked bit busy index named is_bit inside fit early 
           record { start = busy - own.ticks; can_start = starts.1; in_time = omega (arith, starts.0, some, early) };
     })
 
-pub passes_by_known : (frames : List Timed) (level : List ℕ) (blocked bit index : ℕ) (known : Option ℕ) → AreNamed frames level
+pub passes_by_known : (frames : List Timed) (level : List ℕ) (blocked bit index : ℕ) (known : Option ℕ)
+    → AreNamed frames level
     → IsBit frames bit → index < length level → IfSome known (IsFit frames level blocked 0 1)
     → IsSomeAnd known (λ busy.
     busy ≤ min (frame_at frames (get_or level index 0)).deadline (256 * (frame_at frames (get_or level index 0)).period)
@@ -199,7 +204,8 @@ fit_less frames order now m blocked blocked' busy some within same named is fit 
     let sent : own.ticks ≤ asks (get_or now (m - 1) 0) = asks_some own (busy + 0) range (omega (arith, fit.begun)) in
     record { begun = fit.begun; done = omega (arith, fit.done, whole, before, sent, is) }
 
-known_less : (frames : List Timed) (order now : List ℕ) (m blocked blocked' : ℕ) (known : Option ℕ) → 0 < m → m ≤ length now
+known_less : (frames : List Timed) (order now : List ℕ) (m blocked blocked' : ℕ) (known : Option ℕ)
+    → 0 < m → m ≤ length now
     → IsPermutation (take m order) (take m now) → AreNamed frames (take m order)
     → blocked' ≡ max (frame_at frames (get_or now (m - 1) 0)).ticks blocked
     → IfSome known (IsFit frames (take m order) blocked 0 1) → IfSome known (IsFit frames (take (m - 1) now) blocked' 0 1)
@@ -208,7 +214,8 @@ known_less frames order now m blocked blocked' (Some busy) some within same name
     fit_less frames order now m blocked blocked' busy some within same named is fit
 
 -- what holds of the others after one frame of a level took the level's last place
-pub once_less : (frames : List Timed) (order now : List ℕ) (m blocked blocked' : ℕ) (once less : Once) → 0 < m → m ≤ length now
+pub once_less : (frames : List Timed) (order now : List ℕ) (m blocked blocked' : ℕ) (once less : Once)
+    → 0 < m → m ≤ length now
     → IsPermutation (take m order) (take m now) → AreNamed frames (take m order)
     → blocked' ≡ max (frame_at frames (get_or now (m - 1) 0)).ticks blocked
     → less.ticks ≡ once.ticks - (frame_at frames (get_or now (m - 1) 0)).ticks → less.window ≡ once.window → less.busy ≡ once.busy
@@ -232,7 +239,8 @@ once_less frames order now m blocked blocked' once less some within same named i
     }
 
 -- a frame that passes with one instance by its deadline is not late by what the level asks for
-in_time_by_level : (frames : List Timed) (level : List ℕ) (blocked bit first index : ℕ) → AreNamed frames level → IsBit frames bit
+in_time_by_level : (frames : List Timed) (level : List ℕ) (blocked bit first index : ℕ)
+    → AreNamed frames level → IsBit frames bit
     → index < length level → NoneBefore frames level first → PassesAt frames level blocked bit index
     → ¬ (IsLateByLevel (frame_at frames (get_or level index 0)) blocked bit first)
 in_time_by_level frames level blocked bit first index named is_bit inside none it late =
@@ -271,7 +279,8 @@ at_end frames level blocked bit some passes =
     subst P (sym others) passes
 
 -- a frame at the end of its level that is late by a time of the level does not pass
-pub late_at_end : (frames : List Timed) (level : List ℕ) (blocked bit : ℕ) (times : Times) → AreNamed frames level → IsBit frames bit
+pub late_at_end : (frames : List Timed) (level : List ℕ) (blocked bit : ℕ) (times : Times)
+    → AreNamed frames level → IsBit frames bit
     → 0 < length level → AreTimes frames level blocked times
     → ((own_of frames level (length level - 1)).deadline < (own_of frames level (length level - 1)).jitter + times.asked)
     ⊎ IsLateByLevel (own_of frames level (length level - 1)) blocked bit times.first
@@ -288,7 +297,8 @@ late_at_end frames level blocked bit times named is_bit some are (inr late) pass
     (at_end frames level blocked bit some passes) late
 
 -- the times of a level with one of its frames moved to its end
-pub times_moved : (frames : List Timed) (level now : List ℕ) (blocked index : ℕ) (times : Times) → index < length level
+pub times_moved : (frames : List Timed) (level now : List ℕ) (blocked index : ℕ) (times : Times)
+    → index < length level
     → now ≡ moved_last level index → AreTimes frames level blocked times → AreTimes frames now blocked times
 times_moved frames level now blocked index times inside was are =
     let same : IsPermutation level (moved_last level index) = moved_last-permutation level index inside in
@@ -305,11 +315,13 @@ times_moved frames level now blocked index times inside was are =
     }
 
 -- the time that a climb finds is the first; 0 is before each
-pub first_of : (frames : List Timed) (level : List ℕ) (found : Option ℕ) → IfSome found (IsLeast (IsFit frames level 0 0 1))
+pub first_of : (frames : List Timed) (level : List ℕ) (found : Option ℕ)
+    → IfSome found (IsLeast (IsFit frames level 0 0 1))
     → NoneBefore frames level (unwrap_or found 0)
 first_of frames level None least time fit = omega arith
 first_of frames level (Some first) least time fit = least.least time fit
 
-pub first_low : (found : Option ℕ) (limit : ℕ) → IfSome found (λ time. time ≤ limit) → unwrap_or found 0 ≤ limit
+pub first_low : (found : Option ℕ) (limit : ℕ) → IfSome found (λ time. time ≤ limit)
+    → unwrap_or found 0 ≤ limit
 first_low None limit within = omega arith
 first_low (Some first) limit within = within

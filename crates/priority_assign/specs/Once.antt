@@ -11,10 +11,11 @@ ticks_of frames numbers = sum_by (λ number. (frame_at frames number).ticks) num
 
 -- each frame of these numbers asks at most once within a time
 abbrev pub AskOnce : List Timed → List ℕ → ℕ → Type 0
-AskOnce frames numbers time = All (λ number. time ≤ (frame_at frames number).period - (frame_at frames number).jitter) numbers
+AskOnce frames numbers time =
+    All (λ number. time ≤ (frame_at frames number).period - (frame_at frames number).jitter) numbers
 
--- what the frames of these numbers ask for once, a time within which none asks twice, and a busy period of a level of
--- them that lower frames block for so many ticks, if one is known
+-- what the frames of these numbers ask for once, a time within which none asks twice, and a busy period of a
+-- level of them that lower frames block for so many ticks, if one is known
 pub record IsOnce (frames : List Timed) (numbers : List ℕ) (blocked : ℕ) (once : Once) : Type 0 where
   pub ticks : once.ticks ≡ ticks_of frames numbers
   pub few : once.ticks ≤ 12800000000

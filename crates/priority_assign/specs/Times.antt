@@ -19,8 +19,8 @@ pub record AreTimes (frames : List Timed) (level : List ℕ) (blocked : ℕ) (ti
   pub busy : IsLeast (IsFit frames level blocked 0 1) times.busy
   pub limit : times.busy ≤ 2 ^ 45
 
--- a frame that is blocked for about as long as it is sent or longer has one instance by its deadline, and is late where
--- the level asks for more than there is time for up to then
+-- a frame that is blocked for about as long as it is sent, or longer, has one instance by its deadline, and is
+-- late by the first time that holds what its level asks for
 pub record IsLateByLevel (own : Timed) (blocked bit first : ℕ) : Type 0 where
   pub blocks : own.ticks ≤ blocked + bit
   pub one : own.deadline ≤ own.period

@@ -24,13 +24,14 @@ pub(crate) fn once_of(frames: &[Timed], numbers: &[u32]) -> Once
     }
 }
 
-/// The last frame of a level that ends by its deadline where it ends with the level's busy period of `busy` ticks, which
-/// is at most 2^46. None exactly where none does.
+/// The last frame of a level that ends by its deadline where it ends `busy` ticks, at most 2^46, after
+/// the level's busy period began. None exactly where none does.
 pub(crate) fn last_in_time(frames: &[Timed], level: &[u32], busy: u64) -> Option<usize>
     requires named { AreNamed frames.now level.now }
     requires busy { busy ≤ 2 ^ 46 }
     ensures last { IfSome result (IsLastInTime frames.now level.now busy) }
-    ensures none { IfNone result ((index : ℕ) → index < length level.now → ¬ (EndsInTime frames.now level.now busy index)) }
+    ensures none { IfNone result ((index : ℕ) → index < length level.now
+        → ¬ (EndsInTime frames.now level.now busy index)) }
 {
     for index in (0..level.len()).rev() {
         let frame = frames[level[index] as usize];

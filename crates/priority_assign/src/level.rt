@@ -26,15 +26,16 @@ struct Times {
     busy: u64,
 }
 
-/// Whether a frame that passes may be this one: not where it is late after one sending of each frame of the level, nor
-/// where it has one instance by its deadline, and is late where it ends with the first time that holds what is asked for.
+/// Whether a frame of a level may pass: not where it is late after one sending of each frame of the
+/// level, nor where it has one instance by its deadline and is late by the level's first time.
 fn may_pass(own: Timed, blocked: u64, bit: u64, times: Times) -> bool
     requires range { IsInRange own }
     requires blocked { blocked ≤ 100000000 }
     requires bit { bit ≤ own.ticks }
     requires asked { times.asked ≤ 2 ^ 46 }
     requires first { times.first ≤ 2 ^ 46 }
-    ensures { result ≡ false → own.deadline < own.jitter + times.asked ⊎ IsLateByLevel own blocked bit times.first }
+    ensures { result ≡ false → own.deadline < own.jitter + times.asked
+        ⊎ IsLateByLevel own blocked bit times.first }
 {
     if own.jitter + times.asked > own.deadline {
         return false;
@@ -44,8 +45,8 @@ fn may_pass(own: Timed, blocked: u64, bit: u64, times: Times) -> bool
         || own.jitter + times.first + own.ticks <= own.deadline + bit
 }
 
-/// Whether the frame at the end of a level passes with the others of the level higher; lower frames block for `blocked`
-/// ticks. Most are told by the times of the level alone.
+/// Whether the frame at the end of a level passes with the others of the level higher; lower frames
+/// block for `blocked` ticks. Most are told by the times of the level alone.
 fn end_passes(frames: &[Timed], level: &[u32], blocked: u64, bit: u64, times: Times) -> bool
     requires some { 0 < length level.now }
     requires named { AreNamed frames.now level.now }
@@ -75,7 +76,8 @@ fn choose_tested(
     requires times { AreTimes frames.now level.old blocked times }
     ensures chosen { IfSome result (IsLastPassing frames.now level.old blocked bit) }
     ensures moved { IfSome result (λ index. level.new ≡ moved_last level.old index) }
-    ensures none { IfNone result ((index : ℕ) → index < length level.old → ¬ (PassesAt frames.now level.old blocked bit index)) }
+    ensures none { IfNone result ((index : ℕ) → index < length level.old
+        → ¬ (PassesAt frames.now level.old blocked bit index)) }
     ensures same { IfNone result (level.new ≡ level.old) }
 {
     let last = level.len() - 1;
@@ -92,11 +94,11 @@ fn choose_tested(
     None
 }
 
-/// Moves the last frame of a level that passes with the others of the level higher to the level's end, and says where it
-/// was; lower frames block for `blocked` ticks, and `once` is what the level's frames ask for. None exactly where none
-/// passes; the level is as before then. A frame that is late even if each of the level is sent once fails; the last
-/// other one passes where it ends by its deadline with a busy period of the level. The least one is asked for where none
-/// that is known tells, and is known from then on.
+/// Moves the last frame of a level that passes with the others of the level higher to the level's end,
+/// and says where it was; lower frames block for `blocked` ticks, and `once` is what the level's frames
+/// ask for. None exactly where none passes; the level is as before then. A frame that is late even if
+/// each of the level is sent once fails; the last other one passes where it ends by its deadline with a
+/// busy period of the level. The least one is sought where none that is known tells, and is known then.
 pub(crate) fn choose_last(
     frames: &[Timed],
     bit: u64,
@@ -111,7 +113,8 @@ pub(crate) fn choose_last(
     requires once { IsOnce frames.now level.old blocked once.old }
     ensures chosen { IfSome result (IsLastPassing frames.now level.old blocked bit) }
     ensures moved { IfSome result (λ index. level.new ≡ moved_last level.old index) }
-    ensures none { IfNone result ((index : ℕ) → index < length level.old → ¬ (PassesAt frames.now level.old blocked bit index)) }
+    ensures none { IfNone result ((index : ℕ) → index < length level.old
+        → ¬ (PassesAt frames.now level.old blocked bit index)) }
     ensures same { IfNone result (level.new ≡ level.old) }
     ensures once { IsOnce frames.now level.old blocked once.new }
 {

@@ -15,8 +15,8 @@ pub(crate) struct Once {
     pub(crate) busy: Option<u64>,
 }
 
-/// A busy period of a level whose frames, one sending of each, and a lower one ask for `asked` ticks; none where none is
-/// known.
+/// A busy period of a level whose frames, one sending of each, and a lower one ask for `asked` ticks;
+/// none where none is known.
 pub(crate) fn busy_by(once: Once, asked: u64) -> Option<u64>
     ensures { result ≡ (if nat_le asked once.window then Some asked else once.busy) }
 {
@@ -27,11 +27,12 @@ pub(crate) fn busy_by(once: Once, asked: u64) -> Option<u64>
     }
 }
 
-/// Whether a frame that ends with a busy period of its level ends by its deadline and within 256 instances; not where no
-/// busy period is known.
+/// Whether a frame that ends with a busy period of its level ends by its deadline and within 256
+/// instances; not where no busy period is known.
 pub(crate) fn ends_with(own: Timed, busy: Option<u64>) -> bool
     requires { IsInRange own }
-    ensures { IsTrue result ↔ IsSomeAnd busy (λ time. time ≤ min own.deadline (256 * own.period) - own.jitter) }
+    ensures { IsTrue result
+        ↔ IsSomeAnd busy (λ time. time ≤ min own.deadline (256 * own.period) - own.jitter) }
 {
     match busy {
         Some(time) => {
