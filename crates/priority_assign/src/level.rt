@@ -127,6 +127,10 @@ pub(crate) fn choose_last(
     }
     let busy = least_fit(frames, level, blocked, 0, 1, MAX_INSTANCES * MAX_PERIOD)?;
     once.busy = Some(busy);
+    if ends_with(own, Some(busy)) {
+        level[index..].rotate_left(1);
+        return Some(index);
+    }
     let first = least_fit(frames, level, 0, 0, 1, busy).unwrap_or(0);
     let times = Times { asked, first, busy };
     choose_tested(frames, bit, blocked, times, level)

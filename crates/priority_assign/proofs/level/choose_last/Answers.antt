@@ -1,4 +1,4 @@
-use Rattle.std.proofs.Common.{ℕ, ◌+◌, ◌-◌, length, arith}
+use Rattle.std.proofs.Common.{ℕ, ◌+◌, ◌-◌, length, Some, arith}
 use Rattle.std.proofs.lemmas.Slice.{put_mid-rotated}
 use Rattle.priority_assign.specs.Once.{IsLastInTime}
 use Rattle.priority_assign.proofs.Levels.{fits_if_passes}
@@ -43,3 +43,24 @@ returns-then-ends_with-clause-moved c =
     (c.in_ok-index.ensures {u = tt}).last in
     put_mid-rotated c.in_ok-index.index (length c.args.level.now - c.in_ok-index.index) c.args.level.now c.rotate_left.new.self 0
     it.inside (omega arith) c.rotate_left.ensures.after
+
+-- the last such frame passes where the least busy period ends in time
+pub returns-then-ends_with-2-clause-chosen : goal.returns-then-ends_with-2-clause-chosen
+returns-then-ends_with-2-clause-chosen c =
+    let asked : ℕ = c.args.blocked + c.args.once.now.ticks in
+    let it : IsLastInTime c.args.frames.now c.args.level.now asked c.in_ok-index.index = (c.in_ok-index.ensures {u = tt}).last in
+    record {
+      inside = it.inside;
+      passes = passes_by_known c.args.frames.now c.args.level.now c.args.blocked c.args.bit c.in_ok-index.index (Some c.in_ok-busy.busy)
+          c.requires.named c.requires.bit it.inside (c.in_ok-busy.ensures {u = tt}).least.holds (c.ends_with-2.ensures.0 c.if-ends_with-2.true);
+      none_later = λ later after inside passes. it.none_later later after inside
+          (in_time_if_passes c.args.frames.now c.args.level.now c.args.blocked c.args.bit asked later c.requires.named c.requires.bit.some
+          inside (omega (arith, c.requires.once.ticks)) passes);
+    }
+
+pub returns-then-ends_with-2-clause-moved : goal.returns-then-ends_with-2-clause-moved
+returns-then-ends_with-2-clause-moved c =
+    let it : IsLastInTime c.args.frames.now c.args.level.now (c.args.blocked + c.args.once.now.ticks) c.in_ok-index.index =
+    (c.in_ok-index.ensures {u = tt}).last in
+    put_mid-rotated c.in_ok-index.index (length c.args.level.now - c.in_ok-index.index) c.args.level.now c.rotate_left-then-ends_with-2.new.self 0
+    it.inside (omega arith) c.rotate_left-then-ends_with-2.ensures.after
