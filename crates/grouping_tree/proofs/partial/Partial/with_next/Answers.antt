@@ -54,6 +54,11 @@ overflow_sub-other_slacks c =
     let slacks = slack_put problem c.args.self.now c.args.label c.next_sums-next.result b next (put_room problem c.args.self.now c.args.label b legal).1 (legal.classes c.args.label) in
     omega (arith, slacks.0, c.slacks_beside.ensures problem b next, is.cost.slack)
 
+pub first_option-requires : goal.first_option-requires
+first_option-requires c =
+    let (problem, b, legal, is) = c.requires in
+    (problem, b, c.next_sums-next.ensures problem b)
+
 pub overflow_add-label : goal.overflow_add-label
 overflow_add-label c =
     let (problem, b, legal, is) = c.requires in
@@ -100,6 +105,7 @@ returns c = λ problem b legal is.
       sums = c.join-sums.ensures.value ∙ next_sums problem p label c.next_sums-next.result c.args.before.sums b next is.sums;
       cost = cost;
       frame = timed;
+      first = c.first_option.ensures problem b next label;
       classes = c.max.ensures ∙ ap (λ n. max n (label + 1)) b.classes ∙ sym (classes_of-push (labels_of p) label);
       load = omega (arith, loads.0, loads.3, b.load, is.cost.load, cost.load);
       slack = omega (arith, slacks.0, slacks.3, c.slacks_beside.ensures problem b next, is.cost.slack, cost.slack);
