@@ -56,7 +56,8 @@ pub record IsEarlier (range : List Item) (labels : List ℕ) (label : ℕ) : Typ
   pub place : ℕ
   pub low : place + 1 < length labels
   pub has : slice_index labels place ≡ label
-  pub before : (d e : Item) → (slice_index_or range place d).sender < (slice_index_or range (length labels - 1) e).sender
+  pub before : (d e : Item)
+      → (slice_index_or range place d).sender < (slice_index_or range (length labels - 1) e).sender
 
 -- so is each label below one
 abbrev pub AreEarlier : List Item → List ℕ → ℕ → Type 0
@@ -68,8 +69,11 @@ pub record IsCost (problem : Parts) (items : List Item) (cost : Cost) : Type 0 w
   pub load : cost.load ≡ load_of_items problem items
   pub slack : cost.slack ≡ slack_of problem items
 
--- what is kept of the class of a label after some labels, and of all classes: the sums of the label's items, what the class costs, the class as a frame, and the number of classes, the first label of the sender in work, the load and the slack
-pub record IsState (problem : Parts) (range : List Item) (labels : List ℕ) (label : ℕ) (state : State) : Type 0 where
+-- what is kept of the class of a label after some labels, and of all classes: the sums of the label's items,
+-- what the class costs, the class as a frame, and the number of classes, how many there were when the sender in
+-- work began, the load and the slack
+pub record IsState (problem : Parts) (range : List Item) (labels : List ℕ) (label : ℕ) (state : State)
+    : Type 0 where
   pub sums : AreSums problem (class_of label labels range) state.sums
   pub cost : IsCost problem (class_of label labels range) state.cost
   pub frame : state.frame ≡ timed_of_items problem (class_of label labels range)

@@ -329,13 +329,13 @@ impl Partial {
     }
 
     /// The same once the next item has the label too: one that may be put next, of which `before` is kept.
-    fn with_next(&self, label: u32, before: State) -> State
+    fn with_next(&self, label: u32, before: &State) -> State
         requires { (problem : Parts) × Belongs problem self.now
             × IsPartial (range_of problem self.now) (labels_of self.now ++ label ∷ [])
-            × IsState problem (range_of problem self.now) (labels_of self.now) label before }
+            × IsState problem (range_of problem self.now) (labels_of self.now) label before.now }
         ensures { (problem : Parts) → Belongs problem self.now
             → IsPartial (range_of problem self.now) (labels_of self.now ++ label ∷ [])
-            → IsState problem (range_of problem self.now) (labels_of self.now) label before
+            → IsState problem (range_of problem self.now) (labels_of self.now) label before.now
             → IsState problem (range_of problem self.now) (labels_of self.now ++ label ∷ []) label result }
     {
         let next = self.next_sums();
@@ -403,7 +403,7 @@ impl Partial {
         ensures room { room_of self.new ≡ room_of self.old }
     {
         let before = self.state(label);
-        let after = self.with_next(label, before);
+        let after = self.with_next(label, &before);
         self.before[self.count] = before;
         self.labels[self.count] = label;
         self.sums[label as usize] = after.sums;
@@ -427,7 +427,7 @@ impl Partial {
         ensures room { room_of self.new ≡ room_of self.old }
     {
         self.count -= 1;
-        let before = self.before[self.count];
+        let before = &self.before[self.count];
         let label = self.labels[self.count];
         self.sums[label as usize] = before.sums;
         self.costs[label as usize] = before.cost;
@@ -488,11 +488,12 @@ impl Partial {
             → result.load ≡ load_of problem (range_of problem self.now) (labels_of self.now ++ label ∷ []) }
         ensures slack { (problem : Parts) → Belongs problem self.now
             → IsPartial (range_of problem self.now) (labels_of self.now ++ label ∷ [])
-            → result.slack ≡ slack_in_work problem (range_of problem self.now) (labels_of self.now ++ label ∷ [])
+            → result.slack ≡ slack_in_work problem (range_of problem self.now)
+            (labels_of self.now ++ label ∷ [])
             (sender_in_work (range_of problem self.now) (labels_of self.now ++ label ∷ [])) }
     {
         let before = self.state(label);
-        let after = self.with_next(label, before);
+        let after = self.with_next(label, &before);
         Ahead {
             load: after.load,
             slack: after.slack,

@@ -18,11 +18,13 @@ loop-label-init c =
     let problem = c.args.problem.now in
     let p = c.args.self.now in
     let next = c.next_sums-next.ensures problem c.requires in
-    from-earlier (range_of problem p) (labels_of p) c.args.from 0 c.first_option-first.result next.some (c.first_option-first.ensures problem c.requires next 0)
+    from-earlier (range_of problem p) (labels_of p) c.args.from 0 c.first_option-first.result next.some
+    (c.first_option-first.ensures problem c.requires next 0)
     ∙ ap (options_from (range_of problem p) (labels_of p)) (sym c.max-label.ensures)
 
 pub first_option-first-requires : goal.first_option-first-requires
-first_option-first-requires c = (c.args.problem.now, c.requires, c.next_sums-next.ensures c.args.problem.now c.requires)
+first_option-first-requires c =
+    (c.args.problem.now, c.requires, c.next_sums-next.ensures c.args.problem.now c.requires)
 
 pub returns-then-may_put-clause-option : goal.returns-then-may_put-clause-option
 returns-then-may_put-clause-option c =

@@ -18,8 +18,13 @@ loop-label-init c =
     let problem = c.args.problem.now in
     let p = c.args.self.now in
     let next = c.next_sums-next.ensures problem c.requires.belongs in
-    let all = all-earlier (range_of problem p) (labels_of p) 0 c.first_option-first.result next.some (c.first_option-first.ensures problem c.requires.belongs next 0) in
-    record { below = omega (arith, ap length all, c.requires.below); same = ap (λ ls. get_or ls c.args.k 0) all }
+    let all =
+    all-earlier (range_of problem p) (labels_of p) 0 c.first_option-first.result next.some
+    (c.first_option-first.ensures problem c.requires.belongs next 0) in
+    record {
+      below = omega (arith, ap length all, c.requires.below);
+      same = ap (λ ls. get_or ls c.args.k 0) all;
+    }
 
 pub first_option-first-requires : goal.first_option-first-requires
 first_option-first-requires c =

@@ -19,11 +19,18 @@ loop-label-init c =
     let next = c.next_sums-next.ensures problem c.requires in
     record {
       low = omega arith;
-      all = omega (arith, ap length (all-earlier (range_of problem p) (labels_of p) 0 c.first_option-first.result next.some (c.first_option-first.ensures problem c.requires next 0)));
+      all =
+          omega (
+            arith,
+            ap length
+                (all-earlier (range_of problem p) (labels_of p) 0 c.first_option-first.result next.some
+                (c.first_option-first.ensures problem c.requires next 0)),
+          );
     }
 
 pub first_option-first-requires : goal.first_option-first-requires
-first_option-first-requires c = (c.args.problem.now, c.requires, c.next_sums-next.ensures c.args.problem.now c.requires)
+first_option-first-requires c =
+    (c.args.problem.now, c.requires, c.next_sums-next.ensures c.args.problem.now c.requires)
 
 pub loop-label-preserved : goal.loop-label-preserved
 loop-label-preserved c =

@@ -6,8 +6,12 @@ use Rattle.grouping_tree.proofs.partial.Partial.slacks_beside.Goals as goal
 
 pub returns-then-is_in_work : goal.returns-then-is_in_work
 returns-then-is_in_work c = λ problem b is.
-    b.slack ∙ ap (slack_in_work problem (range_of problem c.args.self.now) (labels_of c.args.self.now)) ((c.is_in_work.ensures problem b is).0 c.if-is_in_work.true)
+    let p = c.args.self.now in
+    b.slack
+    ∙ ap (slack_in_work problem (range_of problem p) (labels_of p))
+    ((c.is_in_work.ensures problem b is).0 c.if-is_in_work.true)
 
 pub returns-else-is_in_work : goal.returns-else-is_in_work
 returns-else-is_in_work c = λ problem b is.
-    sym (no_slacks problem c.args.self.now c.args.next b is (λ same. true≢false (sym ((c.is_in_work.ensures problem b is).1 same) ∙ c.if-is_in_work.false)))
+    sym (no_slacks problem c.args.self.now c.args.next b is
+    (λ same. true≢false (sym ((c.is_in_work.ensures problem b is).1 same) ∙ c.if-is_in_work.false)))
