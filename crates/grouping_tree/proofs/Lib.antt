@@ -1,5 +1,6 @@
 pub mod After
 pub mod Classes
+pub mod Earlier
 pub mod Fronts
 pub mod Loads
 pub mod Options
@@ -9,3 +10,4 @@ pub mod Slacks
 pub mod Steps
 pub mod Used
 pub mod Walks
+pub mod Work

@@ -112,7 +112,7 @@ range-once l a (suc n) le lt = by (cases_lt a l) (range-once l (a + 1) n)
 
 -- ---- the next label
 
-pub get_or-next : (p r : List ℕ) (l d : ℕ) → get_or (p ++ l ∷ r) (length p) d ≡ l
+pub get_or-next : {X : Type 0} (p r : List X) (l d : X) → get_or (p ++ l ∷ r) (length p) d ≡ l
 get_or-next [] r l d = refl
 get_or-next (a ∷ p) r l d = get_or-next p r l d
 

@@ -210,7 +210,7 @@ next_sender problem p next d b is =
     (in_range (λ (item : Item). item.sender ≤ top) p.first p.many problem.items b.inside (senders_low problem b.stands) (length (labels_of p)) d is.some) (is.sums d)
 
 -- a later item of a range is of no lower sender
-range_rises : (problem : Parts) (p : Partial) (i j : ℕ) (d e : Item) → Belongs problem p → i ≤ j → j < p.many → (get_or (range_of problem p) i d).sender ≤ (get_or (range_of problem p) j e).sender
+pub range_rises : (problem : Parts) (p : Partial) (i j : ℕ) (d e : Item) → Belongs problem p → i ≤ j → j < p.many → (get_or (range_of problem p) i d).sender ≤ (get_or (range_of problem p) j e).sender
 range_rises problem p i j d e b le lt =
     let all = rises_at 0 problem.items (problem_rises problem b.stands) (p.first + i) (p.first + j) d e (omega (arith, le)) (omega (arith, lt, b.inside)) in
     let one = ap (λ (x : Item). x.sender) (range_at p.first p.many problem.items i d (omega (arith, le, lt))) in

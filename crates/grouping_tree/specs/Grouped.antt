@@ -1,5 +1,5 @@
 -- Running sums of a partial grouping of a range of items: the project's own.
-use Rattle.std.specs.Prelude.{ℕ, ◌≡◌, ◌<◌, ◌≤◌, ◌+◌, ◌/◌, List, [], ◌∷◌, length, take, drop, slice_index, slice_index_or, Option, None, Some}
+use Rattle.std.specs.Prelude.{ℕ, ◌≡◌, ◌<◌, ◌≤◌, ◌+◌, ◌-◌, ◌/◌, List, [], ◌∷◌, length, take, drop, slice_index, slice_index_or, Option, None, Some}
 use Rattle.pack_model.specs.declared.item.Item.{Item}
 use Rattle.pack_model.specs.Problem.{Parts, IsProblem, sent_by}
 use Rattle.class_frame.specs.Grouping.{class_of, classes_of}
@@ -51,18 +51,34 @@ AreEach problem items sums = (i : ℕ) (d : Sums) (item : Item) → i < length i
 abbrev pub slack_at : Parts → List Item → List ℕ → ℕ
 slack_at problem items labels = slack_in_work problem items labels (sender_in_work items labels)
 
+-- a label is that of an item before the last one with a label, of an earlier sender
+pub record IsEarlier (range : List Item) (labels : List ℕ) (label : ℕ) : Type 0 where
+  pub place : ℕ
+  pub low : place + 1 < length labels
+  pub has : slice_index labels place ≡ label
+  pub before : (d e : Item)
+      → (slice_index_or range place d).sender < (slice_index_or range (length labels - 1) e).sender
+
+-- so is each label below one
+abbrev pub AreEarlier : List Item → List ℕ → ℕ → Type 0
+AreEarlier range labels first = (label : ℕ) → label < first → IsEarlier range labels label
+
 -- what a class costs in a common period: how often it is sent, its load and its slack
 pub record IsCost (problem : Parts) (items : List Item) (cost : Cost) : Type 0 where
   pub share : cost.share ≡ problem.hyper / period_of_items problem items
   pub load : cost.load ≡ load_of_items problem items
   pub slack : cost.slack ≡ slack_of problem items
 
--- what is kept of the class of a label after some labels, and of all classes: the sums of the label's items, what the class costs, the class as a frame, and the number of classes, the load and the slack
-pub record IsState (problem : Parts) (range : List Item) (labels : List ℕ) (label : ℕ) (state : State) : Type 0 where
+-- what is kept of the class of a label after some labels, and of all classes: the sums of the label's items,
+-- what the class costs, the class as a frame, and the number of classes, how many there were when the sender in
+-- work began, the load and the slack
+pub record IsState (problem : Parts) (range : List Item) (labels : List ℕ) (label : ℕ) (state : State)
+    : Type 0 where
   pub sums : AreSums problem (class_of label labels range) state.sums
   pub cost : IsCost problem (class_of label labels range) state.cost
   pub frame : state.frame ≡ timed_of_items problem (class_of label labels range)
   pub classes : state.classes ≡ classes_of labels
+  pub first : AreEarlier range labels state.first_label
   pub load : state.load ≡ load_of problem range labels
   pub slack : state.slack ≡ slack_at problem range labels
 
@@ -83,6 +99,7 @@ pub record Belongs (problem : Parts) (p : Partial) : Type 0 where
   pub legal : IsPartial (range_of problem p) (labels_of p)
   pub low : (i : ℕ) → i < p.count → slice_index p.labels.items i < room_of p
   pub classes : p.classes ≡ classes_of (labels_of p)
+  pub first : AreEarlier (range_of problem p) (labels_of p) p.first_label
   pub load : p.load ≡ load_of problem (range_of problem p) (labels_of p)
   pub slack : p.slack ≡ slack_at problem (range_of problem p) (labels_of p)
   pub items : AreEach problem (range_of problem p) p.items.items

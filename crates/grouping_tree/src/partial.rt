@@ -11,7 +11,7 @@ ghost use Rattle.class_frame.specs.Grouping.{class_of, classes_of};
 ghost use Rattle.class_frame.specs.Sums.{AreSums, IsSmall};
 ghost use Rattle.class_frame.specs.declared.sums.Sums.{Sums};
 ghost use Rattle.grouping_tree.specs.Partial.{IsPartial, keeps_legal, options_of};
-ghost use Rattle.grouping_tree.specs.Grouped.{AreEach, Belongs, IsCost, IsNext, IsState, IsUsed, items_in, items_with, sender_of, labels_of, range_of, room_of};
+ghost use Rattle.grouping_tree.specs.Grouped.{AreEach, AreEarlier, Belongs, IsCost, IsNext, IsState, IsUsed, items_in, items_with, sender_of, labels_of, range_of, room_of};
 ghost use Rattle.grouping_tree.specs.declared.cost.Cost.{Cost};
 ghost use Rattle.busy_period.specs.declared.timed.Timed.{Timed};
 ghost use Rattle.grouping_tree.specs.Slack.{sender_in_work, slack_in_work, slacks_of};
@@ -40,6 +40,8 @@ pub struct Partial {
     count: usize,
     /// How many classes these have.
     classes: u32,
+    /// How many they had when the sender in work began: the labels of earlier senders' classes.
+    first_label: u32,
     /// The loads of these together.
     load: u128,
     /// The slacks of those of the sender in work together.
@@ -69,6 +71,8 @@ struct State {
     frame: Timed,
     /// The number of classes.
     classes: u32,
+    /// How many there were when the sender in work began.
+    first_label: u32,
     /// The loads of these together.
     load: u128,
     /// The slacks of those of the sender in work together.
@@ -117,6 +121,7 @@ impl Partial {
             cost: Cost::none(),
             frame,
             classes: 0,
+            first_label: 0,
             load: 0,
             slack: 0,
         };
@@ -130,6 +135,7 @@ impl Partial {
             many: place.many,
             count: 0,
             classes: 0,
+            first_label: 0,
             load: 0,
             slack: 0,
             labels: vec![in alloc; 0; place.many]?,
@@ -162,6 +168,7 @@ impl Partial {
         self.many = place.many;
         self.count = 0;
         self.classes = 0;
+        self.first_label = 0;
         self.load = 0;
         self.slack = 0;
         write_sums(&mut self.items, problem, place);
@@ -218,8 +225,9 @@ impl Partial {
             return 0;
         }
         let next = self.next_sums();
+        let first = self.first_option(next);
         let mut count = 0;
-        for label in 0..self.classes + 1 {
+        for label in first..self.classes + 1 {
             if self.may_put(label, next) {
                 count += 1;
             }
@@ -234,8 +242,9 @@ impl Partial {
         ensures { result ≡ slice_index (options_of (range_of problem.now self.now) (labels_of self.now)) k }
     {
         let next = self.next_sums();
+        let first = self.first_option(next);
         let mut before = k;
-        for label in 0..self.classes + 1 {
+        for label in first..self.classes + 1 {
             if self.may_put(label, next) {
                 if before == 0 {
                     return label;
@@ -260,7 +269,8 @@ impl Partial {
             return None;
         }
         let next = self.next_sums();
-        for label in from..self.classes + 1 {
+        let first = self.first_option(next);
+        for label in from.max(first)..self.classes + 1 {
             if self.may_put(label, next) {
                 return Some(label);
             }
@@ -312,19 +322,20 @@ impl Partial {
             cost: self.costs[place],
             frame: self.frames[place],
             classes: self.classes,
+            first_label: self.first_label,
             load: self.load,
             slack: self.slack,
         }
     }
 
     /// The same once the next item has the label too: one that may be put next, of which `before` is kept.
-    fn with_next(&self, label: u32, before: State) -> State
+    fn with_next(&self, label: u32, before: &State) -> State
         requires { (problem : Parts) × Belongs problem self.now
             × IsPartial (range_of problem self.now) (labels_of self.now ++ label ∷ [])
-            × IsState problem (range_of problem self.now) (labels_of self.now) label before }
+            × IsState problem (range_of problem self.now) (labels_of self.now) label before.now }
         ensures { (problem : Parts) → Belongs problem self.now
             → IsPartial (range_of problem self.now) (labels_of self.now ++ label ∷ [])
-            → IsState problem (range_of problem self.now) (labels_of self.now) label before
+            → IsState problem (range_of problem self.now) (labels_of self.now) label before.now
             → IsState problem (range_of problem self.now) (labels_of self.now ++ label ∷ []) label result }
     {
         let next = self.next_sums();
@@ -344,6 +355,7 @@ impl Partial {
             cost,
             frame,
             classes: self.classes.max(label + 1),
+            first_label: self.first_option(next),
             load: other_loads + cost.load,
             slack: other_slacks + cost.slack,
         }
@@ -355,14 +367,29 @@ impl Partial {
         ensures { (problem : Parts) → Belongs problem self.now → IsNext problem self.now next
             → result ≡ slacks_of problem next.first_sender (range_of problem self.now) (labels_of self.now) }
     {
-        if self.count == 0 {
-            return 0;
-        }
-        if self.items[self.count - 1].first_sender == next.first_sender {
-            self.slack
+        if self.is_in_work(next) { self.slack } else { 0 }
+    }
+
+    /// The least label that the next item may get: those below are of classes of earlier senders.
+    fn first_option(&self, next: Sums) -> u32
+        requires { (problem : Parts) × Belongs problem self.now × IsNext problem self.now next }
+        ensures { (problem : Parts) → Belongs problem self.now → IsNext problem self.now next → (label : ℕ)
+            → AreEarlier (range_of problem self.now) (labels_of self.now ++ label ∷ []) result }
+    {
+        if self.is_in_work(next) {
+            self.first_label
         } else {
-            0
+            self.classes
         }
+    }
+
+    /// Whether the next item is of the sender in work.
+    fn is_in_work(&self, next: Sums) -> bool
+        requires { (problem : Parts) × Belongs problem self.now × IsNext problem self.now next }
+        ensures { (problem : Parts) → Belongs problem self.now → IsNext problem self.now next → IsTrue result
+            ↔ (sender_in_work (range_of problem self.now) (labels_of self.now) ≡ Some next.first_sender) }
+    {
+        self.count > 0 && self.items[self.count - 1].first_sender == next.first_sender
     }
 
     /// Gives the next item a label: one that may be put next.
@@ -376,13 +403,14 @@ impl Partial {
         ensures room { room_of self.new ≡ room_of self.old }
     {
         let before = self.state(label);
-        let after = self.with_next(label, before);
+        let after = self.with_next(label, &before);
         self.before[self.count] = before;
         self.labels[self.count] = label;
         self.sums[label as usize] = after.sums;
         self.costs[label as usize] = after.cost;
         self.frames[label as usize] = after.frame;
         self.classes = after.classes;
+        self.first_label = after.first_label;
         self.load = after.load;
         self.slack = after.slack;
         self.count += 1;
@@ -399,12 +427,13 @@ impl Partial {
         ensures room { room_of self.new ≡ room_of self.old }
     {
         self.count -= 1;
-        let before = self.before[self.count];
+        let before = &self.before[self.count];
         let label = self.labels[self.count];
         self.sums[label as usize] = before.sums;
         self.costs[label as usize] = before.cost;
         self.frames[label as usize] = before.frame;
         self.classes = before.classes;
+        self.first_label = before.first_label;
         self.load = before.load;
         self.slack = before.slack;
     }
@@ -459,11 +488,12 @@ impl Partial {
             → result.load ≡ load_of problem (range_of problem self.now) (labels_of self.now ++ label ∷ []) }
         ensures slack { (problem : Parts) → Belongs problem self.now
             → IsPartial (range_of problem self.now) (labels_of self.now ++ label ∷ [])
-            → result.slack ≡ slack_in_work problem (range_of problem self.now) (labels_of self.now ++ label ∷ [])
+            → result.slack ≡ slack_in_work problem (range_of problem self.now)
+            (labels_of self.now ++ label ∷ [])
             (sender_in_work (range_of problem self.now) (labels_of self.now ++ label ∷ [])) }
     {
         let before = self.state(label);
-        let after = self.with_next(label, before);
+        let after = self.with_next(label, &before);
         Ahead {
             load: after.load,
             slack: after.slack,

@@ -25,7 +25,7 @@ named_permuted frames xs ys same named =
       few = omega (arith, named.few, length_permutation xs ys same);
     }
 
-fit_permuted : (frames : List Timed) (xs ys : List ℕ) (base ahead from time : ℕ) → IsPermutation xs ys
+pub fit_permuted : (frames : List Timed) (xs ys : List ℕ) (base ahead from time : ℕ) → IsPermutation xs ys
     → IsFit frames xs base ahead from time → IsFit frames ys base ahead from time
 fit_permuted frames xs ys base ahead from time same fit =
     record {

@@ -1,4 +1,5 @@
 pub mod Level
 pub mod Once
+pub mod Times
 pub mod Lowest
 pub mod Checked

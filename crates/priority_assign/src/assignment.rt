@@ -49,7 +49,7 @@ pub fn assign(frames: &[Timed], bit: u64, order: &mut [u32]) -> Assigned
     let mut blocked = 0;
     for placed in 0..order.len() {
         let remaining = order.len() - placed;
-        if choose_last(frames, bit, blocked, once, &mut order[..remaining]).is_none() {
+        if choose_last(frames, bit, blocked, &mut once, &mut order[..remaining]).is_none() {
             return Assigned::Stuck { remaining };
         }
         let ticks = frames[order[remaining - 1] as usize].ticks;

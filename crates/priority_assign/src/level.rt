@@ -1,75 +1,92 @@
-ghost use Rattle.std.specs.Prelude.{◌≡◌, ℕ, ◌+◌, ◌-◌, ◌<◌, ◌≤◌, ◌^◌, ◌↔◌, length, IsTrue, IfSome, IfNone};
+ghost use Rattle.std.specs.Prelude.{◌≡◌, ℕ, ◌+◌, ◌-◌, ◌<◌, ◌≤◌, ◌^◌, ◌↔◌, ◌⊎◌, false, length, IsTrue, IfSome, IfNone};
 ghost use Rattle.busy_period.specs.Stage.{AreNamed, own_number, higher_of};
-ghost use Rattle.busy_period.specs.Least.{IsLeast};
-ghost use Rattle.busy_period.specs.Busy.{IsFit};
+ghost use Rattle.busy_period.specs.Timed.{IsInRange};
 ghost use Rattle.response_test.specs.Queueing.{IsBit};
 ghost use Rattle.response_test.specs.Frame.{PassesBlocked};
 ghost use Rattle.priority_assign.specs.Level.{moved_last, PassesAt, IsLastPassing};
-ghost use Rattle.priority_assign.specs.Once.{ticks_of, IsOnce};
+ghost use Rattle.priority_assign.specs.Once.{IsOnce};
+ghost use Rattle.priority_assign.specs.Times.{AreTimes, IsLateByLevel};
 
 use crate::in_time::last_in_time;
-use crate::once::Once;
+use crate::once::{Once, busy_by, ends_with};
 use busy_period::{MAX_INSTANCES, Timed, least_fit};
 use response_test::last_passes;
 
 /// The greatest period of a frame, in ticks.
 const MAX_PERIOD: u64 = 100_000_000_000;
 
-/// Whether the frame at the end of a level passes with the others of the level higher; lower frames block for `blocked`
-/// ticks, and `busy` is the level's busy period. One that is late after `asked` ticks, those that block and one sending
-/// of each frame of the level, is not tested.
-fn end_passes(
-    frames: &[Timed],
-    level: &[u32],
-    blocked: u64,
-    bit: u64,
+/// Times of a level that tell of most of its frames whether they pass.
+#[derive(Clone, Copy)]
+struct Times {
+    /// The ticks that block and one sending of each frame of the level.
     asked: u64,
+    /// No time before this holds all that the frames of the level ask for within it.
+    first: u64,
+    /// The busy period of the level.
     busy: u64,
-) -> bool
+}
+
+/// Whether a frame of a level may pass: not where it is late after one sending of each frame of the
+/// level, nor where it has one instance by its deadline and is late by the level's first time.
+fn may_pass(own: Timed, blocked: u64, bit: u64, times: Times) -> bool
+    requires range { IsInRange own }
+    requires blocked { blocked ≤ 100000000 }
+    requires bit { bit ≤ own.ticks }
+    requires asked { times.asked ≤ 2 ^ 46 }
+    requires first { times.first ≤ 2 ^ 46 }
+    ensures { result ≡ false → own.deadline < own.jitter + times.asked
+        ⊎ IsLateByLevel own blocked bit times.first }
+{
+    if own.jitter + times.asked > own.deadline {
+        return false;
+    }
+    own.ticks > blocked + bit
+        || own.deadline > own.period
+        || own.jitter + times.first + own.ticks <= own.deadline + bit
+}
+
+/// Whether the frame at the end of a level passes with the others of the level higher; lower frames
+/// block for `blocked` ticks. Most are told by the times of the level alone.
+fn end_passes(frames: &[Timed], level: &[u32], blocked: u64, bit: u64, times: Times) -> bool
     requires some { 0 < length level.now }
     requires named { AreNamed frames.now level.now }
     requires bit { IsBit frames.now bit }
     requires blocked { blocked ≤ 100000000 }
-    requires asked { asked ≡ blocked + ticks_of frames.now level.now }
-    requires short { asked ≤ 2 ^ 46 }
-    requires busy { IsLeast (IsFit frames.now level.now blocked 0 1) busy }
-    requires limit { busy ≤ 2 ^ 45 }
+    requires times { AreTimes frames.now level.now blocked times }
     ensures { IsTrue result
         ↔ PassesBlocked frames.now (own_number level.now (length level.now - 1))
         (higher_of level.now (length level.now - 1)) blocked bit }
 {
     let own = frames[level[level.len() - 1] as usize];
-    own.jitter + asked <= own.deadline && last_passes(frames, level, blocked, bit, busy)
+    may_pass(own, blocked, bit, times) && last_passes(frames, level, blocked, bit, times.busy)
 }
 
-/// Chooses as `choose_last` does, by the test of each frame in turn; `asked` is the ticks that block and one sending of
-/// each frame of the level. The busy period is the same for each frame of the level.
+/// Chooses as `choose_last` does, by the test of each frame in turn.
 fn choose_tested(
     frames: &[Timed],
     bit: u64,
     blocked: u64,
-    asked: u64,
+    times: Times,
     level: &mut [u32],
 ) -> Option<usize>
     requires some { 0 < length level.old }
     requires named { AreNamed frames.now level.old }
     requires bit { IsBit frames.now bit }
     requires blocked { blocked ≤ 100000000 }
-    requires asked { asked ≡ blocked + ticks_of frames.now level.old }
-    requires short { asked ≤ 2 ^ 46 }
+    requires times { AreTimes frames.now level.old blocked times }
     ensures chosen { IfSome result (IsLastPassing frames.now level.old blocked bit) }
     ensures moved { IfSome result (λ index. level.new ≡ moved_last level.old index) }
-    ensures none { IfNone result ((index : ℕ) → index < length level.old → ¬ (PassesAt frames.now level.old blocked bit index)) }
+    ensures none { IfNone result ((index : ℕ) → index < length level.old
+        → ¬ (PassesAt frames.now level.old blocked bit index)) }
     ensures same { IfNone result (level.new ≡ level.old) }
 {
-    let busy = least_fit(frames, level, blocked, 0, 1, MAX_INSTANCES * MAX_PERIOD)?;
     let last = level.len() - 1;
-    if end_passes(frames, level, blocked, bit, asked, busy) {
+    if end_passes(frames, level, blocked, bit, times) {
         return Some(last);
     }
     for index in (0..last).rev() {
         level.swap(index, last);
-        if end_passes(frames, level, blocked, bit, asked, busy) {
+        if end_passes(frames, level, blocked, bit, times) {
             return Some(index);
         }
     }
@@ -77,32 +94,44 @@ fn choose_tested(
     None
 }
 
-/// Moves the last frame of a level that passes with the others of the level higher to the level's end, and says where it
-/// was; lower frames block for `blocked` ticks, and `once` is what the level's frames ask for once. None exactly where
-/// none passes; the level is as before then. Where each frame asks once in the busy period, none is tested: the frame
-/// passes that ends by its deadline where it ends with the busy period.
+/// Moves the last frame of a level that passes with the others of the level higher to the level's end,
+/// and says where it was; lower frames block for `blocked` ticks, and `once` is what the level's frames
+/// ask for. None exactly where none passes; the level is as before then. A frame that is late even if
+/// each of the level is sent once fails; the last other one passes where it ends by its deadline with a
+/// busy period of the level. The least one is sought where none that is known tells, and is known then.
 pub(crate) fn choose_last(
     frames: &[Timed],
     bit: u64,
     blocked: u64,
-    once: Once,
+    once: &mut Once,
     level: &mut [u32],
 ) -> Option<usize>
     requires some { 0 < length level.old }
     requires named { AreNamed frames.now level.old }
     requires bit { IsBit frames.now bit }
     requires blocked { blocked ≤ 100000000 }
-    requires once { IsOnce frames.now level.old once }
+    requires once { IsOnce frames.now level.old blocked once.old }
     ensures chosen { IfSome result (IsLastPassing frames.now level.old blocked bit) }
     ensures moved { IfSome result (λ index. level.new ≡ moved_last level.old index) }
-    ensures none { IfNone result ((index : ℕ) → index < length level.old → ¬ (PassesAt frames.now level.old blocked bit index)) }
+    ensures none { IfNone result ((index : ℕ) → index < length level.old
+        → ¬ (PassesAt frames.now level.old blocked bit index)) }
     ensures same { IfNone result (level.new ≡ level.old) }
+    ensures once { IsOnce frames.now level.old blocked once.new }
 {
     let asked = blocked + once.ticks;
     let index = last_in_time(frames, level, asked)?;
-    if asked > once.window {
-        return choose_tested(frames, bit, blocked, asked, level);
+    let own = frames[level[index] as usize];
+    if ends_with(own, busy_by(*once, asked)) {
+        level[index..].rotate_left(1);
+        return Some(index);
     }
-    level[index..].rotate_left(1);
-    Some(index)
+    let busy = least_fit(frames, level, blocked, 0, 1, MAX_INSTANCES * MAX_PERIOD)?;
+    once.busy = Some(busy);
+    if ends_with(own, Some(busy)) {
+        level[index..].rotate_left(1);
+        return Some(index);
+    }
+    let first = least_fit(frames, level, 0, 0, 1, busy).unwrap_or(0);
+    let times = Times { asked, first, busy };
+    choose_tested(frames, bit, blocked, times, level)
 }

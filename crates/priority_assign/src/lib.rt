@@ -5,6 +5,9 @@
 //! frames higher and the placed ones lower takes the place. This is the assignment of Audsley, which is complete for a
 //! test that depends on the higher frames as a set and is kept by fewer of them. All times are whole ticks.
 //!
+//! Most frames are told without the test of each instance: by what the frames without a place ask for once,
+//! and by busy periods that are known.
+//!
 //! No call takes memory, and each returns for all frames in range.
 #![tactic(auto)]
 

@@ -122,6 +122,16 @@ impl Judge for SearchJudge {
         self.floors.lower8(partial)
     }
 
+    fn is_bounded(
+        &self,
+        problem: &Problem,
+        partial: &Partial,
+        label: u32,
+        best: Option<u128>,
+    ) -> bool {
+        reaches_best(best, self.floors.lower8_ahead(partial, label))
+    }
+
     fn find(
         &mut self,
         problem: &Problem,

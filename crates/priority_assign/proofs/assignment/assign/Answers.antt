@@ -1,11 +1,14 @@
-use Rattle.std.proofs.Common.{◌≡◌, ℕ, ◌+◌, ◌-◌, ◌<◌, ◌++◌, List, length, take, drop, get_or, not, refl, sym, ◌∙◌, ap, subst, arith, false, is_some}
+use Rattle.std.proofs.Common.{◌≡◌, ℕ, ◌+◌, ◌-◌, ◌<◌, ◌++◌, List, length, take, drop, get_or, not, refl, sym, ◌∙◌, ap, subst, arith, false, is_some, length-take}
 use Rattle.std.proofs.lemmas.List.{drop_all, take_all}
+use Rattle.std.proofs.lemmas.List.Elements.{All-take}
 use Rattle.busy_period.specs.Timed.{IsInRange, none_frame, frame_at}
+use Rattle.busy_period.specs.Stage.{AreNamed}
 use Rattle.busy_period.specs.Demand.{blocking_of}
 use Rattle.response_test.specs.Order.{FailSet, OrderPasses}
 use Rattle.response_test.proofs.Order.{no_order_passes}
 use Rattle.priority_assign.specs.Level.{PassesAt}
 use Rattle.priority_assign.specs.Lowest.{FillsLowestFirst, IsLowestFirst}
+use Rattle.priority_assign.specs.declared.once.Once.{Once}
 use Rattle.priority_assign.specs.Once.{IsOnce}
 use Rattle.priority_assign.proofs.Filling.{Given}
 use Rattle.priority_assign.proofs.SentOnce.{once_less}
@@ -23,7 +26,7 @@ loop-placed-init c =
           (λ index inside. c.number_each.ensures index (omega (arith, long))));
       blocked = ap (blocking_of c.args.frames.now) (sym (drop_all (length order - 0) order (omega arith)));
       bound = omega arith;
-      once = subst (λ numbers. IsOnce c.args.frames.now numbers c.once_of-once.result) (sym (take_all (length order - 0) order (omega arith)))
+      once = subst (λ numbers. IsOnce c.args.frames.now numbers 0 c.once_of-once.result) (sym (take_all (length order - 0) order (omega arith)))
           c.once_of-once.ensures;
     }
 
@@ -95,17 +98,25 @@ loop-placed-preserved c =
     (c.is_none.ensures ∙ ap not c.if-is_none.false) c.choose_last.ensures.chosen c.choose_last.ensures.moved in
     let less : m - 1 ≡ length now - (c.loop-placed.placed + 1) = omega (arith, it.long) in
     let range : IsInRange (frame_at c.args.frames.now (get_or now (m - 1) 0)) = c.requires.in_range (get_or now (m - 1) 0) none_frame it.inside in
+    let fewer : Once = record {
+      ticks = c.choose_last.new.once.ticks - (frame_at c.args.frames.now (get_or now (m - 1) 0)).ticks;
+      window = c.choose_last.new.once.window;
+      busy = c.choose_last.new.once.busy;
+    } in
+    let named : AreNamed c.args.frames.now (take m order) = record {
+      in_range = c.requires.in_range;
+      named = All-take (λ number. number < length c.args.frames.now) m order c.loop-placed.invariant.fills.names_each_once.named;
+      few = omega (arith, length-take m order, c.requires.few, c.requires.length);
+    } in
     let blocks : c.max-blocked.result ≡ blocking_of c.args.frames.now (drop (m - 1) now) =
     omega (arith, it.blocks, c.loop-placed.invariant.blocked, c.max-blocked.ensures) in
     record {
       fills = subst (λ n. FillsLowestFirst c.args.frames.now c.args.bit n now) less it.fills;
       blocked = blocks ∙ ap (λ n. blocking_of c.args.frames.now (drop n now)) less;
       bound = omega (arith, range.ticks, c.max-blocked.ensures, c.loop-placed.invariant.bound);
-      once = subst (λ n. IsOnce c.args.frames.now (take n now)
-          (record { ticks = c.loop-placed.once.ticks - (frame_at c.args.frames.now (get_or now (m - 1) 0)).ticks; window = c.loop-placed.once.window }))
-          less
-          (once_less c.args.frames.now order now m (frame_at c.args.frames.now (get_or now (m - 1) 0)).ticks c.loop-placed.once _ (omega arith)
-          (omega (arith, it.long)) it.same refl refl refl c.loop-placed.invariant.once).1;
+      once = subst (λ n. IsOnce c.args.frames.now (take n now) c.max-blocked.result fewer) less
+          (once_less c.args.frames.now order now m c.loop-placed.blocked c.max-blocked.result c.choose_last.new.once fewer (omega arith)
+          (omega (arith, it.long)) it.same named c.max-blocked.ensures refl refl refl c.choose_last.ensures.once);
     }
 
 -- all places are filled at the end

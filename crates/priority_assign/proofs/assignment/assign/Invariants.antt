@@ -11,5 +11,5 @@ invariant-loop-placed l = record {
   fills : FillsLowestFirst l.frames l.bit (length l.order - l.placed) l.order;
   blocked : l.blocked ≡ blocking_of l.frames (drop (length l.order - l.placed) l.order);
   bound : l.blocked ≤ 100000000;
-  once : IsOnce l.frames (take (length l.order - l.placed) l.order) l.once;
+  once : IsOnce l.frames (take (length l.order - l.placed) l.order) l.blocked l.once;
 }

@@ -1,8 +1,8 @@
-use Rattle.std.proofs.Common.{ℕ, ◌+◌, ◌-◌, ◌≤◌, All, refl, arith, ap}
-use Rattle.std.proofs.lemmas.List.Elements.{All-weaker}
-use Rattle.busy_period.specs.Timed.{frame_at}
-use Rattle.priority_assign.specs.Once.{IsLastInTime, AskOnce}
-use Rattle.priority_assign.proofs.SentOnce.{in_time_if_passes, passes_if_in_time}
+use Rattle.std.proofs.Common.{ℕ, ◌+◌, ◌-◌, length, Some, arith}
+use Rattle.std.proofs.lemmas.Slice.{put_mid-rotated}
+use Rattle.priority_assign.specs.Once.{IsLastInTime}
+use Rattle.priority_assign.proofs.Levels.{fits_if_passes}
+use Rattle.priority_assign.proofs.SentOnce.{in_time_if_passes, known_fit, passes_by_known}
 use Rattle.priority_assign.proofs.level.choose_last.Goals as goal
 
 -- a frame that passes ends by its deadline where each is sent once
@@ -10,22 +10,57 @@ pub returns-in_err-index-clause-none : goal.returns-in_err-index-clause-none
 returns-in_err-index-clause-none c =
     rw c.from_residual.ensures (λ index inside passes.
     (c.in_err-index.ensures {u = tt}).none index inside
-    (in_time_if_passes c.args.frames.now c.args.level.now c.args.blocked c.args.bit (c.args.blocked + c.args.once.ticks) index
+    (in_time_if_passes c.args.frames.now c.args.level.now c.args.blocked c.args.bit (c.args.blocked + c.args.once.now.ticks) index
     c.requires.named c.requires.bit.some inside (omega (arith, c.requires.once.ticks)) passes))
 
--- and the other way round where the window is long enough
-pub returns-clause-chosen : goal.returns-clause-chosen
-returns-clause-chosen c =
-    let asked : ℕ = c.args.blocked + c.args.once.ticks in
-    let P : ℕ → ℕ → Type 0 = λ time number. time ≤ (frame_at c.args.frames.now number).period - (frame_at c.args.frames.now number).jitter in
-    let once : AskOnce c.args.frames.now c.args.level.now asked =
-    All-weaker (P c.args.once.window) (P asked) (λ number le. omega (arith, le, c.if-asked-once.false)) c.args.level.now c.requires.once.window in
+-- the last such frame passes where a busy period that is known ends in time
+pub returns-then-ends_with-clause-chosen : goal.returns-then-ends_with-clause-chosen
+returns-then-ends_with-clause-chosen c =
+    let asked : ℕ = c.args.blocked + c.args.once.now.ticks in
     let it : IsLastInTime c.args.frames.now c.args.level.now asked c.in_ok-index.index = (c.in_ok-index.ensures {u = tt}).last in
     record {
       inside = it.inside;
-      passes = passes_if_in_time c.args.frames.now c.args.level.now c.args.blocked c.args.bit asked c.in_ok-index.index
-          c.requires.named c.requires.bit it.inside (omega (arith, c.requires.once.ticks)) once it.in_time;
+      passes = passes_by_known c.args.frames.now c.args.level.now c.args.blocked c.args.bit c.in_ok-index.index c.busy_by.result
+          c.requires.named c.requires.bit it.inside
+          (known_fit c.args.frames.now c.args.level.now c.args.blocked asked c.in_ok-index.index c.args.once.now c.busy_by.result
+          c.requires.named it.inside (omega (arith, c.requires.once.ticks)) c.requires.once c.busy_by.ensures)
+          (c.ends_with.ensures.0 c.if-ends_with.true);
       none_later = λ later after inside passes. it.none_later later after inside
           (in_time_if_passes c.args.frames.now c.args.level.now c.args.blocked c.args.bit asked later c.requires.named c.requires.bit.some
           inside (omega (arith, c.requires.once.ticks)) passes);
     }
+
+-- a frame that passes has a busy period
+pub returns-in_err-busy-clause-none : goal.returns-in_err-busy-clause-none
+returns-in_err-busy-clause-none c =
+    rw c.from_residual-in_err-busy.ensures (λ index inside passes.
+    let fits = fits_if_passes c.args.frames.now c.args.level.now c.args.blocked c.args.bit index c.requires.named inside passes in
+    omega (arith, (c.in_err-busy.ensures {u = tt}).none fits.0 fits.1, fits.2))
+
+pub returns-then-ends_with-clause-moved : goal.returns-then-ends_with-clause-moved
+returns-then-ends_with-clause-moved c =
+    let it : IsLastInTime c.args.frames.now c.args.level.now (c.args.blocked + c.args.once.now.ticks) c.in_ok-index.index =
+    (c.in_ok-index.ensures {u = tt}).last in
+    put_mid-rotated c.in_ok-index.index (length c.args.level.now - c.in_ok-index.index) c.args.level.now c.rotate_left.new.self 0
+    it.inside (omega arith) c.rotate_left.ensures.after
+
+-- the last such frame passes where the least busy period ends in time
+pub returns-then-ends_with-2-clause-chosen : goal.returns-then-ends_with-2-clause-chosen
+returns-then-ends_with-2-clause-chosen c =
+    let asked : ℕ = c.args.blocked + c.args.once.now.ticks in
+    let it : IsLastInTime c.args.frames.now c.args.level.now asked c.in_ok-index.index = (c.in_ok-index.ensures {u = tt}).last in
+    record {
+      inside = it.inside;
+      passes = passes_by_known c.args.frames.now c.args.level.now c.args.blocked c.args.bit c.in_ok-index.index (Some c.in_ok-busy.busy)
+          c.requires.named c.requires.bit it.inside (c.in_ok-busy.ensures {u = tt}).least.holds (c.ends_with-2.ensures.0 c.if-ends_with-2.true);
+      none_later = λ later after inside passes. it.none_later later after inside
+          (in_time_if_passes c.args.frames.now c.args.level.now c.args.blocked c.args.bit asked later c.requires.named c.requires.bit.some
+          inside (omega (arith, c.requires.once.ticks)) passes);
+    }
+
+pub returns-then-ends_with-2-clause-moved : goal.returns-then-ends_with-2-clause-moved
+returns-then-ends_with-2-clause-moved c =
+    let it : IsLastInTime c.args.frames.now c.args.level.now (c.args.blocked + c.args.once.now.ticks) c.in_ok-index.index =
+    (c.in_ok-index.ensures {u = tt}).last in
+    put_mid-rotated c.in_ok-index.index (length c.args.level.now - c.in_ok-index.index) c.args.level.now c.rotate_left-then-ends_with-2.new.self 0
+    it.inside (omega arith) c.rotate_left-then-ends_with-2.ensures.after

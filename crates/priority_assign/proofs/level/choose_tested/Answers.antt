@@ -2,8 +2,8 @@ use Rattle.std.proofs.Common.{◌≡◌, ℕ, ◌-◌, inl, inr, length, subst, 
 use Rattle.std.proofs.lemmas.Bool.{cases_lt}
 use Rattle.priority_assign.specs.Level.{moved_last, PassesAt}
 use Rattle.priority_assign.proofs.Moved.{moved_last-last, moved_last-step}
-use Rattle.priority_assign.proofs.Levels.{named_moved, least_fit_moved, passes_at_moved, fits_if_passes}
-use Rattle.priority_assign.proofs.SentOnce.{ticks_moved}
+use Rattle.priority_assign.proofs.Levels.{named_moved, passes_at_moved}
+use Rattle.priority_assign.proofs.SentOnce.{times_moved}
 use Rattle.priority_assign.proofs.level.choose_tested.Goals as goal
 
 -- the last frame is at the end already
@@ -18,13 +18,6 @@ returns-then-end_passes-clause-chosen c =
       none_later = λ later after within. absurd (omega arith);
     }
 
--- a frame that passes has a busy period
-pub returns-in_err-busy-clause-none : goal.returns-in_err-busy-clause-none
-returns-in_err-busy-clause-none c =
-    rw c.from_residual.ensures (λ index inside passes.
-    let fits = fits_if_passes c.args.frames.now c.args.level.now c.args.blocked c.args.bit index c.requires.named inside passes in
-    omega (arith, (c.in_err-busy.ensures {u = tt}).none fits.0 fits.1, fits.2))
-
 -- the level is the old one with the frame at the index moved to its end
 moved : (c : goal.After-slice_known-in-loop-index-1) → c.swap.new.self ≡ moved_last c.args.level.now (c.loop-index.index - 1)
 moved c = moved_last-step c.args.level.now c.loop-index.level c.swap.new.self c.loop-index.index (omega arith) (omega arith)
@@ -34,15 +27,10 @@ pub end_passes-requires-in-loop-index-clause-named : goal.end_passes-requires-in
 end_passes-requires-in-loop-index-clause-named c =
     named_moved c.args.frames.now c.args.level.now c.swap.new.self (c.loop-index.index - 1) (omega arith) (moved c) c.requires.named
 
-pub end_passes-requires-in-loop-index-clause-asked : goal.end_passes-requires-in-loop-index-clause-asked
-end_passes-requires-in-loop-index-clause-asked c =
-    ticks_moved c.args.frames.now c.args.level.now c.swap.new.self c.args.asked c.args.blocked (c.loop-index.index - 1) (omega arith) (moved c)
-    c.requires.asked
-
-pub end_passes-requires-in-loop-index-clause-busy : goal.end_passes-requires-in-loop-index-clause-busy
-end_passes-requires-in-loop-index-clause-busy c =
-    least_fit_moved c.args.frames.now c.args.level.now c.swap.new.self c.args.blocked 0 1 c.in_ok-busy.busy (c.loop-index.index - 1)
-    (omega arith) (moved c) (c.in_ok-busy.ensures {u = tt}).least
+pub end_passes-requires-in-loop-index-clause-times : goal.end_passes-requires-in-loop-index-clause-times
+end_passes-requires-in-loop-index-clause-times c =
+    times_moved c.args.frames.now c.args.level.now c.swap.new.self c.args.blocked (c.loop-index.index - 1) c.args.times (omega arith) (moved c)
+    c.requires.times
 
 pub returns-then-end_passes-2-clause-moved : goal.returns-then-end_passes-2-clause-moved
 returns-then-end_passes-2-clause-moved c =

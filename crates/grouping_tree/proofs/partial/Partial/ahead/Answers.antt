@@ -14,7 +14,9 @@ with_next-after-requires c =
     (problem, b, legal, c.state-before.ensures problem b)
 
 pub returns-clause-load : goal.returns-clause-load
-returns-clause-load c = λ problem b legal. (c.with_next-after.ensures problem b legal (c.state-before.ensures problem b)).load
+returns-clause-load c = λ problem b legal.
+    (c.with_next-after.ensures problem b legal (c.state-before.ensures problem b)).load
 
 pub returns-clause-slack : goal.returns-clause-slack
-returns-clause-slack c = λ problem b legal. (c.with_next-after.ensures problem b legal (c.state-before.ensures problem b)).slack
+returns-clause-slack c = λ problem b legal.
+    (c.with_next-after.ensures problem b legal (c.state-before.ensures problem b)).slack

@@ -1,6 +1,8 @@
-use Rattle.std.proofs.Common.{◌<◌, ◌+◌, sym, ◌∙◌, arith}
+use Rattle.std.proofs.Common.{◌<◌, ◌+◌, sym, ap, ◌∙◌, arith}
 use Rattle.class_frame.specs.Grouping.{classes_of}
 use Rattle.grouping_tree.specs.Grouped.{labels_of, range_of}
+use Rattle.grouping_tree.specs.Walk.{options_from}
+use Rattle.grouping_tree.proofs.Earlier.{from-earlier}
 use Rattle.grouping_tree.proofs.Puts.{put-legal}
 use Rattle.grouping_tree.proofs.Used.{counted, few, classes_few, long}
 use Rattle.grouping_tree.proofs.Walks.{from-here, from-next, from-past}
@@ -10,6 +12,19 @@ pub overflow_add-label-end : goal.overflow_add-label-end
 overflow_add-label-end c =
     let b = c.requires in
     omega (arith, b.classes, classes_few c.args.problem.now c.args.self.now b, few c.args.problem.now c.args.self.now b, b.within)
+
+pub loop-label-init : goal.loop-label-init
+loop-label-init c =
+    let problem = c.args.problem.now in
+    let p = c.args.self.now in
+    let next = c.next_sums-next.ensures problem c.requires in
+    from-earlier (range_of problem p) (labels_of p) c.args.from 0 c.first_option-first.result next.some
+    (c.first_option-first.ensures problem c.requires next 0)
+    ∙ ap (options_from (range_of problem p) (labels_of p)) (sym c.max-label.ensures)
+
+pub first_option-first-requires : goal.first_option-first-requires
+first_option-first-requires c =
+    (c.args.problem.now, c.requires, c.next_sums-next.ensures c.args.problem.now c.requires)
 
 pub returns-then-may_put-clause-option : goal.returns-then-may_put-clause-option
 returns-then-may_put-clause-option c =

@@ -2,8 +2,9 @@ use Rattle.std.proofs.Common.{◌≡◌, ◌<◌, ◌+◌, suc, length, get_or, 
 use Rattle.class_frame.specs.Grouping.{classes_of}
 use Rattle.grouping_tree.specs.Grouped.{labels_of, range_of}
 use Rattle.grouping_tree.specs.Walk.{options_from}
+use Rattle.grouping_tree.proofs.Earlier.{all-earlier}
 use Rattle.grouping_tree.proofs.Used.{few, classes_few}
-use Rattle.grouping_tree.proofs.Walks.{from-all, from-here, from-next, from-past, option_left}
+use Rattle.grouping_tree.proofs.Walks.{from-here, from-next, from-past, option_left}
 use Rattle.grouping_tree.proofs.partial.Partial.option.Goals.{then-may_put+else-before-eq0, else-may_put}
 use Rattle.grouping_tree.proofs.partial.Partial.option.Goals as goal
 
@@ -14,8 +15,20 @@ overflow_add-label-end c =
 
 pub loop-label-init : goal.loop-label-init
 loop-label-init c =
-    let all = from-all (range_of c.args.problem.now c.args.self.now) (labels_of c.args.self.now) in
-    record { below = omega (arith, ap length all, c.requires.below); same = sym (ap (λ ls. get_or ls c.args.k 0) all) }
+    let problem = c.args.problem.now in
+    let p = c.args.self.now in
+    let next = c.next_sums-next.ensures problem c.requires.belongs in
+    let all =
+    all-earlier (range_of problem p) (labels_of p) 0 c.first_option-first.result next.some
+    (c.first_option-first.ensures problem c.requires.belongs next 0) in
+    record {
+      below = omega (arith, ap length all, c.requires.below);
+      same = ap (λ ls. get_or ls c.args.k 0) all;
+    }
+
+pub first_option-first-requires : goal.first_option-first-requires
+first_option-first-requires c =
+    (c.args.problem.now, c.requires.belongs, c.next_sums-next.ensures c.args.problem.now c.requires.belongs)
 
 pub returns-then-before-eq0 : goal.returns-then-before-eq0
 returns-then-before-eq0 c =

@@ -1,8 +1,9 @@
 use Rattle.std.proofs.Common.{◌<◌, ◌+◌, length, sym, ◌∙◌, arith, ap}
 use Rattle.class_frame.specs.Grouping.{classes_of}
 use Rattle.grouping_tree.specs.Grouped.{labels_of, range_of}
+use Rattle.grouping_tree.proofs.Earlier.{all-earlier}
 use Rattle.grouping_tree.proofs.Used.{counted, few, classes_few, long}
-use Rattle.grouping_tree.proofs.Walks.{from-all, from-here, from-next, from-past}
+use Rattle.grouping_tree.proofs.Walks.{from-here, from-next, from-past}
 use Rattle.grouping_tree.proofs.partial.Partial.options.Goals.{then-may_put, else-may_put}
 use Rattle.grouping_tree.proofs.partial.Partial.options.Goals as goal
 
@@ -12,10 +13,24 @@ overflow_add-label-end c =
     omega (arith, b.classes, classes_few c.args.problem.now c.args.self.now b, few c.args.problem.now c.args.self.now b, b.within)
 
 pub loop-label-init : goal.loop-label-init
-loop-label-init c = record {
-  low = omega arith;
-  all = omega (arith, ap length (from-all (range_of c.args.problem.now c.args.self.now) (labels_of c.args.self.now)));
-}
+loop-label-init c =
+    let problem = c.args.problem.now in
+    let p = c.args.self.now in
+    let next = c.next_sums-next.ensures problem c.requires in
+    record {
+      low = omega arith;
+      all =
+          omega (
+            arith,
+            ap length
+                (all-earlier (range_of problem p) (labels_of p) 0 c.first_option-first.result next.some
+                (c.first_option-first.ensures problem c.requires next 0)),
+          );
+    }
+
+pub first_option-first-requires : goal.first_option-first-requires
+first_option-first-requires c =
+    (c.args.problem.now, c.requires, c.next_sums-next.ensures c.args.problem.now c.requires)
 
 pub loop-label-preserved : goal.loop-label-preserved
 loop-label-preserved c =

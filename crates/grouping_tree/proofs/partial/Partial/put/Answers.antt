@@ -7,7 +7,7 @@ use Rattle.class_frame.specs.Frame.{timed_of_items}
 use Rattle.class_frame.specs.Grouping.{classes_of}
 use Rattle.class_frame.specs.Sums.{AreSums}
 use Rattle.grouping_tree.specs.Partial.{IsPartial}
-use Rattle.grouping_tree.specs.Grouped.{IsCost, IsState, labels_of, range_of, slack_at}
+use Rattle.grouping_tree.specs.Grouped.{AreEarlier, IsCost, IsState, labels_of, range_of, slack_at}
 use Rattle.grouping_tree.proofs.Steps.{before_put, label_put}
 use Rattle.grouping_tree.proofs.Used.{low_room, put_room}
 use Rattle.grouping_tree.proofs.partial.Partial.put.Goals as goal
@@ -56,6 +56,7 @@ returns-clause-belongs c =
       legal = subst (IsPartial range) (sym labels) c.requires.legal;
       low = λ i lt. low_put p.labels.items p.count label here there b.low i lt;
       classes = new.classes ∙ sym (ap classes_of labels);
+      first = subst (λ ls. AreEarlier range ls c.with_next-after.result.first_label) (sym labels) new.first;
       load = new.load ∙ sym (ap (load_of problem range) labels);
       slack = new.slack ∙ sym (ap (slack_at problem range) labels);
       items = b.items;

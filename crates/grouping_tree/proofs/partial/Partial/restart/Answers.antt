@@ -21,6 +21,7 @@ returns-clause-belongs c =
       legal = partial-none _;
       low = λ i lt. absurd (omega arith);
       classes = search rules;
+      first = λ label lt. absurd (omega arith);
       load = search rules;
       slack = search rules;
       items = c.write_sums.ensures.each;

@@ -44,6 +44,7 @@ returns-clause-belongs c =
       legal = partial-append range (take n p.labels.items) (get_or p.labels.items n 0 ∷ []) (subst (IsPartial range) (ap (λ m. take m p.labels.items) (sym next) ∙ take_more p.labels.items n 0 some) b.legal);
       low = λ i lt. b.low i (omega (arith, lt, next));
       classes = old.classes;
+      first = old.first;
       load = old.load;
       slack = old.slack;
       items = b.items;

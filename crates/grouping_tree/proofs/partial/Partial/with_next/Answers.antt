@@ -16,23 +16,23 @@ next_sums-next-requires c =
 pub join-sums-requires : goal.join-sums-requires
 join-sums-requires c =
     let (problem, b, legal, is) = c.requires in
-    record { small = next_small problem c.args.self.now c.args.label c.next_sums-next.result c.args.before.sums b (c.next_sums-next.ensures problem b) is.sums }
+    record { small = next_small problem c.args.self.now c.args.label c.next_sums-next.result c.args.before.now.sums b (c.next_sums-next.ensures problem b) is.sums }
 
 pub timed-frame-requires-clause-small : goal.timed-frame-requires-clause-small
 timed-frame-requires-clause-small c =
     let (problem, b, legal, is) = c.requires in
-    after_small problem c.args.self.now c.args.label c.next_sums-next.result c.join-sums.result c.args.before b (c.next_sums-next.ensures problem b) is c.join-sums.ensures.value
+    after_small problem c.args.self.now c.args.label c.next_sums-next.result c.join-sums.result c.args.before.now b (c.next_sums-next.ensures problem b) is c.join-sums.ensures.value
 
 pub of-cost-requires-clause-small : goal.of-cost-requires-clause-small
 of-cost-requires-clause-small c =
     let (problem, b, legal, is) = c.requires in
-    after_small problem c.args.self.now c.args.label c.next_sums-next.result c.join-sums.result c.args.before b (c.next_sums-next.ensures problem b) is c.join-sums.ensures.value
+    after_small problem c.args.self.now c.args.label c.next_sums-next.result c.join-sums.result c.args.before.now b (c.next_sums-next.ensures problem b) is c.join-sums.ensures.value
 
 pub share_of-share-requires-clause-some : goal.share_of-share-requires-clause-some
 share_of-share-requires-clause-some c =
     let (problem, b, legal, is) = c.requires in
     let in_range : IsInRange c.timed-frame.result =
-    after_frame problem c.args.self.now c.args.label c.next_sums-next.result c.join-sums.result c.args.before b (c.next_sums-next.ensures problem b) is c.join-sums.ensures.value
+    after_frame problem c.args.self.now c.args.label c.next_sums-next.result c.join-sums.result c.args.before.now b (c.next_sums-next.ensures problem b) is c.join-sums.ensures.value
     (λ problem items. IsInRange c.timed-frame.result) c.timed-frame.ensures.in_range in
     in_range.some_period
 
@@ -54,6 +54,11 @@ overflow_sub-other_slacks c =
     let slacks = slack_put problem c.args.self.now c.args.label c.next_sums-next.result b next (put_room problem c.args.self.now c.args.label b legal).1 (legal.classes c.args.label) in
     omega (arith, slacks.0, c.slacks_beside.ensures problem b next, is.cost.slack)
 
+pub first_option-requires : goal.first_option-requires
+first_option-requires c =
+    let (problem, b, legal, is) = c.requires in
+    (problem, b, c.next_sums-next.ensures problem b)
+
 pub overflow_add-label : goal.overflow_add-label
 overflow_add-label c =
     let (problem, b, legal, is) = c.requires in
@@ -65,9 +70,9 @@ overflow_add-result c =
     let (problem, b, legal, is) = c.requires in
     let next = c.next_sums-next.ensures problem b in
     let p = c.args.self.now in
-    let timed = after_frame problem p c.args.label c.next_sums-next.result c.join-sums.result c.args.before b next is c.join-sums.ensures.value
+    let timed = after_frame problem p c.args.label c.next_sums-next.result c.join-sums.result c.args.before.now b next is c.join-sums.ensures.value
     (λ problem items. c.timed-frame.result ≡ timed_of_items problem items) c.timed-frame.ensures.value in
-    let cost = after_cost problem p c.args.label c.next_sums-next.result c.join-sums.result c.args.before c.timed-frame.result c.share_of-share.result c.of-cost.result b next is c.join-sums.ensures.value
+    let cost = after_cost problem p c.args.label c.next_sums-next.result c.join-sums.result c.args.before.now c.timed-frame.result c.share_of-share.result c.of-cost.result b next is c.join-sums.ensures.value
     timed c.share_of-share.ensures c.of-cost.ensures in
     let loads = load_put problem p c.args.label c.next_sums-next.result b next (put_room problem p c.args.label b legal).1 in
     omega (arith, loads.1, loads.2, b.load, cost.load)
@@ -77,9 +82,9 @@ overflow_add-result-2 c =
     let (problem, b, legal, is) = c.requires in
     let next = c.next_sums-next.ensures problem b in
     let p = c.args.self.now in
-    let timed = after_frame problem p c.args.label c.next_sums-next.result c.join-sums.result c.args.before b next is c.join-sums.ensures.value
+    let timed = after_frame problem p c.args.label c.next_sums-next.result c.join-sums.result c.args.before.now b next is c.join-sums.ensures.value
     (λ problem items. c.timed-frame.result ≡ timed_of_items problem items) c.timed-frame.ensures.value in
-    let cost = after_cost problem p c.args.label c.next_sums-next.result c.join-sums.result c.args.before c.timed-frame.result c.share_of-share.result c.of-cost.result b next is c.join-sums.ensures.value
+    let cost = after_cost problem p c.args.label c.next_sums-next.result c.join-sums.result c.args.before.now c.timed-frame.result c.share_of-share.result c.of-cost.result b next is c.join-sums.ensures.value
     timed c.share_of-share.ensures c.of-cost.ensures in
     let slacks = slack_put problem p c.args.label c.next_sums-next.result b next (put_room problem p c.args.label b legal).1 (legal.classes c.args.label) in
     omega (arith, slacks.1, slacks.2, c.slacks_beside.ensures problem b next, cost.slack)
@@ -90,16 +95,17 @@ returns c = λ problem b legal is.
     let p = c.args.self.now in
     let label = c.args.label in
     let low = (put_room problem p label b legal).1 in
-    let timed = after_frame problem p label c.next_sums-next.result c.join-sums.result c.args.before b next is c.join-sums.ensures.value
+    let timed = after_frame problem p label c.next_sums-next.result c.join-sums.result c.args.before.now b next is c.join-sums.ensures.value
     (λ problem items. c.timed-frame.result ≡ timed_of_items problem items) c.timed-frame.ensures.value in
-    let cost = after_cost problem p label c.next_sums-next.result c.join-sums.result c.args.before c.timed-frame.result c.share_of-share.result c.of-cost.result b next is c.join-sums.ensures.value
+    let cost = after_cost problem p label c.next_sums-next.result c.join-sums.result c.args.before.now c.timed-frame.result c.share_of-share.result c.of-cost.result b next is c.join-sums.ensures.value
     timed c.share_of-share.ensures c.of-cost.ensures in
     let loads = load_put problem p label c.next_sums-next.result b next low in
     let slacks = slack_put problem p label c.next_sums-next.result b next low (legal.classes label) in
     record {
-      sums = c.join-sums.ensures.value ∙ next_sums problem p label c.next_sums-next.result c.args.before.sums b next is.sums;
+      sums = c.join-sums.ensures.value ∙ next_sums problem p label c.next_sums-next.result c.args.before.now.sums b next is.sums;
       cost = cost;
       frame = timed;
+      first = c.first_option.ensures problem b next label;
       classes = c.max.ensures ∙ ap (λ n. max n (label + 1)) b.classes ∙ sym (classes_of-push (labels_of p) label);
       load = omega (arith, loads.0, loads.3, b.load, is.cost.load, cost.load);
       slack = omega (arith, slacks.0, slacks.3, c.slacks_beside.ensures problem b next, is.cost.slack, cost.slack);
