@@ -2,6 +2,7 @@ pub mod Builds
 pub mod Counts
 pub mod Firsts
 pub mod Flattens
+pub mod Goings
 pub mod Leasts
 pub mod Moves
 pub mod Standing

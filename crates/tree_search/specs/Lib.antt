@@ -1,6 +1,7 @@
 pub mod Build
 pub mod Count
 pub mod Flat
+pub mod Going
 pub mod Open
 pub mod Shown
 pub mod Sound

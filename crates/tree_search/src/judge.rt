@@ -1,8 +1,9 @@
 //! Who says what is found at a place of a search.
-ghost use Rattle.std.specs.Prelude.{ℕ, ◌≡◌, ◌<◌, List, Option, length, IfOk};
+ghost use Rattle.std.specs.Prelude.{ℕ, ◌≡◌, ◌<◌, ◌++◌, List, true, [], ◌∷◌, Option, length, IfOk};
 ghost use Rattle.pack_model.specs.declared.item.Item.{Item};
 ghost use Rattle.pack_model.specs.Problem.{Parts};
 ghost use Rattle.grouping_tree.specs.Grouped.{Belongs, labels_of, range_of};
+ghost use Rattle.grouping_tree.specs.Partial.{IsPartial};
 ghost use Rattle.tree_search.specs.declared.finding.Finding.{Finding};
 
 use crate::finding::Finding;
@@ -28,6 +29,21 @@ pub trait Judge {
         requires suits { suits self.now problem.now (range_of problem.now partial.now) }
         ensures { result
             ≡ bound_of self.now problem.now (range_of problem.now partial.now) (labels_of partial.now) };
+
+    /// Whether the lower bound reaches the best load once the next item has a label that may be put next.
+    fn is_bounded(
+        &self,
+        problem: &Problem,
+        partial: &Partial,
+        label: u32,
+        best: Option<u128>,
+    ) -> bool
+        requires belongs { Belongs problem.now partial.now }
+        requires suits { suits self.now problem.now (range_of problem.now partial.now) }
+        requires legal { IsPartial (range_of problem.now partial.now)
+            (labels_of partial.now ++ label ∷ []) }
+        ensures { result ≡ true → finds self.now problem.now (range_of problem.now partial.now) best
+            (labels_of partial.now ++ label ∷ []) Finding.Bounded };
 
     /// What is found, where `best` is the best load so far in ticks a common period, if there is one. After an
     /// error nothing is known of the judge but what it may find.

@@ -5,6 +5,7 @@
 #![tactic(auto)]
 
 mod finding;
+mod going;
 mod judge;
 mod node;
 mod resuming;

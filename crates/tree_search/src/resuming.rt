@@ -91,12 +91,14 @@ impl Search {
             self.new.open)) }
     {
         match node {
-            Node::Inner(_) => {
-                self.part(problem)?;
+            Node::Inner(count) => {
+                self.nodes.push(Node::Inner(count))?;
+                self.partial.enter(problem);
                 Ok(())
             }
             _ => {
-                self.close(problem, node)?;
+                self.nodes.push(node)?;
+                self.open = self.partial.leave(problem, self.base);
                 Ok(())
             }
         }
