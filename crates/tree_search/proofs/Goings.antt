@@ -7,7 +7,7 @@ use Rattle.grouping_tree.specs.Grouped.{labels_of}
 use Rattle.grouping_tree.specs.Walk.{options_from, places_left, with_each}
 use Rattle.grouping_tree.proofs.Walks.{left-next, left-push}
 use Rattle.tree_search.specs.declared.finding.Finding.{Finding}
-use Rattle.tree_search.specs.declared.finding.Finding.TheVariants.{Bounded, Parted}
+use Rattle.tree_search.specs.declared.finding.Finding.TheVariants.{Bounded}
 use Rattle.tree_search.specs.declared.finding.Found.{Found}
 use Rattle.tree_search.specs.declared.node.Node.{Node}
 use Rattle.tree_search.specs.declared.node.Node.TheVariants.{Bound}

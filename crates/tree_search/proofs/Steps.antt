@@ -16,7 +16,7 @@ use Rattle.tree_search.specs.declared.search.Search.{Search}
 use Rattle.tree_search.specs.Flat.{flat_each}
 use Rattle.tree_search.specs.Going.{Holds, IsOn, places_on}
 use Rattle.tree_search.specs.Open.{any_goal, lefts, put_first}
-use Rattle.tree_search.specs.Shown.{GoesOn, IsAt, Shows, agenda, items_of, start_of}
+use Rattle.tree_search.specs.Shown.{GoesOn, IsAt, Shows, items_of, start_of}
 use Rattle.tree_search.specs.Step.{Searched, Step, Steps, after, best_after, found_after, leaf_after}
 use Rattle.tree_search.proofs.Firsts.{count-lefts, flat-lefts, open-lefts, shows-more, stand-lefts}
 

@@ -1,10 +1,10 @@
 -- A walk over the nodes of a tree in preorder, up to its first open leaf.
-use Rattle.std.proofs.Common.{◌≡◌, ℕ, zero, suc, ◌+◌, ◌<◌, List, [], ◌∷◌, ◌++◌, length, take, drop, replicate, Bool, true, false, refl, sym, ap, ◌∙◌, append_assoc, append-nil, add-one}
+use Rattle.std.proofs.Common.{◌≡◌, ℕ, zero, suc, ◌+◌, ◌<◌, List, [], ◌∷◌, ◌++◌, length, replicate, Bool, true, false, refl, sym, ap, ◌∙◌, append_assoc, append-nil, add-one}
 use Rattle.std.specs.Prelude.{⊤}
 use Rattle.pack_model.specs.declared.item.Item.{Item}
 use Rattle.cert_text.specs.Trees.{Plain, Plains, bound, fail, inner, left, more, none}
 use Rattle.grouping_tree.specs.Partial.{options_of}
-use Rattle.grouping_tree.specs.Walk.{places_below, places_beside, places_left, with_each}
+use Rattle.grouping_tree.specs.Walk.{places_below, places_left, with_each}
 use Rattle.bandwidth_bound.specs.Trees.{EachStands, open_places, open_places_each}
 use Rattle.tree_search.specs.declared.node.Node.{Node}
 use Rattle.tree_search.specs.declared.node.Node.TheVariants.{Inner, Bound, Left, Fail}

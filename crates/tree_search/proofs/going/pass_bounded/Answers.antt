@@ -1,4 +1,4 @@
-use Rattle.std.proofs.Common.{◌≡◌, ◌++◌, ◌∷◌, [], true, refl, arith}
+use Rattle.std.proofs.Common.{◌≡◌, true, refl, arith}
 use Rattle.grouping_tree.specs.Grouped.{labels_of, range_of}
 use Rattle.grouping_tree.proofs.Used.{classes_few, few, put_room}
 use Rattle.tree_search.proofs.Goings.{passed-all, passed-more, passed-to}

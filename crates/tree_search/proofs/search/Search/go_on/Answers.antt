@@ -1,4 +1,4 @@
-use Rattle.std.proofs.Common.{◌≡◌, ◌≤◌, ◌++◌, [], ◌∷◌, length, None, true, false, refl, sym, ap, ◌∙◌, length-append, arith}
+use Rattle.std.proofs.Common.{◌≡◌, [], ◌∷◌, length, None, true, false, refl, sym, ap, ◌∙◌, length-append, arith}
 use Rattle.grouping_tree.specs.Grouped.{labels_of}
 use Rattle.grouping_tree.proofs.Walks.{front-stays}
 use Rattle.tree_search.specs.Shown.{items_of, start_of}

@@ -1,4 +1,4 @@
-use Rattle.std.proofs.Common.{◌≡◌, ◌+◌, ◌≤◌, ℕ, None, true, length}
+use Rattle.std.proofs.Common.{◌≡◌, ◌+◌, ◌≤◌, None, true, length}
 use Rattle.grouping_tree.specs.Grouped.{labels_of}
 use Rattle.tree_search.specs.Going.{Holds, IsOn, places_on}
 use Rattle.tree_search.specs.Shown.{GoesOn, items_of, start_of}

@@ -1,4 +1,4 @@
-use Rattle.std.proofs.Common.{◌≡◌, ◌∷◌, ◌++◌, [], true, false, refl, sym, ap, ◌∙◌, arith}
+use Rattle.std.proofs.Common.{◌≡◌, true, false, refl, sym, ◌∙◌, arith}
 use Rattle.grouping_tree.specs.Grouped.{labels_of, range_of}
 use Rattle.tree_search.specs.Shown.{items_of, start_of}
 use Rattle.tree_search.proofs.Moves.{entered-agenda, entered-front, left-agenda, left-below}

@@ -1,5 +1,4 @@
 use Rattle.std.proofs.Common.{sym, ◌∙◌}
-use Rattle.tree_search.specs.Shown.{items_of, start_of}
 use Rattle.tree_search.proofs.search.Search.resume.Goals as goal
 
 pub read_all-requires-clause-tree : goal.read_all-requires-clause-tree
