@@ -1,4 +1,4 @@
--- A step of the code is one of the definition.
+-- Steps of the code are steps of the definition.
 use Rattle.std.proofs.Common.{◌≡◌, ◌<◌, ℕ, zero, suc, ◌+◌, List, [], ◌∷◌, ◌++◌, length, replicate, true, Option, refl, sym, ap, ◌∙◌, add-one, add-suc, add-zero, arith}
 use Rattle.std.proofs.lemmas.List.{length-map}
 use Rattle.pack_model.specs.declared.item.Item.{Item}
@@ -9,12 +9,14 @@ use Rattle.grouping_tree.specs.Partial.{options_of}
 use Rattle.grouping_tree.specs.Walk.{places_below, places_left}
 use Rattle.tree_search.specs.declared.finding.Finding.{Finding}
 use Rattle.tree_search.specs.declared.finding.Finding.TheVariants.{Bounded, Failed, Complete, Parted}
+use Rattle.tree_search.specs.declared.finding.Found.{Found}
 use Rattle.tree_search.specs.declared.node.Node.{Node}
 use Rattle.tree_search.specs.declared.node.Node.TheVariants.{Inner, Bound, Left, Fail}
 use Rattle.tree_search.specs.declared.search.Search.{Search}
 use Rattle.tree_search.specs.Flat.{flat_each}
+use Rattle.tree_search.specs.Going.{Holds, IsOn, places_on}
 use Rattle.tree_search.specs.Open.{any_goal, lefts, put_first}
-use Rattle.tree_search.specs.Shown.{GoesOn, IsAt, Shows, agenda, items_of, start_of}
+use Rattle.tree_search.specs.Shown.{GoesOn, IsAt, Shows, items_of, start_of}
 use Rattle.tree_search.specs.Step.{Searched, Step, Steps, after, best_after, found_after, leaf_after}
 use Rattle.tree_search.proofs.Firsts.{count-lefts, flat-lefts, open-lefts, shows-more, stand-lefts}
 
@@ -55,45 +57,64 @@ shows-after items from nodes p rest t Parted some h =
     (flat-lefts n ∙ ap (λ m. replicate m Left) (sym (length-map ls (λ l. p ++ l ∷ [])))))
     (open-lefts items p ls) (some refl, stand-lefts (any_goal items) p ls refl)
 
--- the search is at the tree after the step
-pub at-after : (problem : Parts) (old new : Search) (finding : Finding) (x : Searched)
-    → IsAt problem old x → old.open ≡ true → GoesOn problem old new
+-- what is held then
+pub held-after : (items : List Item) (from : List ℕ) (nodes : List Node) (p : List ℕ) (rest : List (List ℕ))
+    (finding : Finding) (best : Option ℕ) (found : Option Found) (x : Searched)
+    → (finding ≡ Parted → length p < length items)
+    → Holds items from nodes (p ∷ rest) best found x
+    → Holds items from (nodes ++ node_after finding (length (options_of items p)) ∷ [])
+    (opens_after items p finding ++ rest) (best_after finding best) (found_after finding p found)
+    (after items p finding x)
+held-after items from nodes p rest finding best found x some h = record {
+  shows = shows-after items from nodes p rest x.tree finding some h.shows;
+  same_best = ap (best_after finding) h.same_best;
+  same_found = ap (found_after finding p) h.same_found;
+}
+
+-- and that is a step
+pub held-step : (Finds : Option ℕ → List ℕ → Finding → Type 0) (items : List Item) (from : List ℕ)
+    (nodes : List Node) (p : List ℕ) (rest : List (List ℕ)) (finding : Finding) (best : Option ℕ)
+    (found : Option Found) (x : Searched)
+    → Holds items from nodes (p ∷ rest) best found x → Finds best p finding
+    → Step Finds items from x (after items p finding x)
+held-step Finds items from nodes p rest finding best found x h finds = record {
+  place = p;
+  rest = rest;
+  first = h.shows.open_are;
+  finding = finding;
+  finds = rw h.same_best finds;
+  is = refl;
+}
+
+-- what a search holds at its open leaf
+pub held-open : (problem : Parts) (search : Search) (x : Searched) → IsAt problem search x
+    → search.open ≡ true
+    → Holds (items_of problem search) (start_of search) search.nodes.items
+    (labels_of search.partial
+    ∷ places_left (items_of problem search) search.base (labels_of search.partial))
+    search.best search.found x
+held-open problem search x at is_open =
+    record { shows = rw is_open at at.shows; same_best = at.best; same_found = at.found }
+
+-- what is found at the open leaf became of it
+pub settled : (problem : Parts) (old new : Search) (finding given : Finding) (from : Option ℕ) (x : Searched)
+    → IsAt problem old x → old.open ≡ true → given ≡ finding → GoesOn problem old new
     → (finding ≡ Parted → length (labels_of old.partial) < length (items_of problem old))
     → new.nodes.items ≡ old.nodes.items
     ++ node_after finding (length (options_of (items_of problem old) (labels_of old.partial))) ∷ []
-    → agenda (items_of problem old) old.base (labels_of new.partial) new.open
+    → places_on (items_of problem old) old.base (labels_of new.partial) from
     ≡ opens_after (items_of problem old) (labels_of old.partial) finding
     ++ places_left (items_of problem old) old.base (labels_of old.partial)
     → new.best ≡ best_after finding old.best
     → new.found ≡ found_after finding (labels_of old.partial) old.found
-    → IsAt problem new (after (items_of problem old) (labels_of old.partial) finding x)
-at-after problem old new finding x at is_open on some nodes rest best found =
+    → IsOn problem new from (after (items_of problem old) (labels_of old.partial) given x)
+settled problem old new finding given from x at is_open is on some nodes rest best found =
     let p = labels_of old.partial in
     let items = items_of problem old in
-    let shows =
-    shows-after items (start_of old) old.nodes.items p (places_left items old.base p) x.tree finding some
-    (rw is_open at at.shows) in
-    record {
-      shows = rw (on.items, on.start, on.base, nodes, rest) shows;
-      best = ap (best_after finding) at.best ∙ sym best;
-      found = ap (found_after finding p) at.found ∙ sym found;
-    }
-
--- and it is a step
-pub is-step : (Finds : Option ℕ → List ℕ → Finding → Type 0) (problem : Parts) (old : Search)
-    (finding : Finding) (x : Searched)
-    → IsAt problem old x → old.open ≡ true → Finds old.best (labels_of old.partial) finding
-    → Step Finds (items_of problem old) (start_of old) x
-    (after (items_of problem old) (labels_of old.partial) finding x)
-is-step Finds problem old finding x at is_open finds = record {
-  place = labels_of old.partial;
-  rest = places_left (items_of problem old) old.base (labels_of old.partial);
-  first = at.shows.open_are
-      ∙ ap (agenda (items_of problem old) old.base (labels_of old.partial)) is_open;
-  finding = finding;
-  finds = rw at.best finds;
-  is = refl;
-}
+    let held =
+    held-after items (start_of old) old.nodes.items p (places_left items old.base p) finding old.best old.found x
+    some (held-open problem old x at is_open) in
+    rw (is, on.items, on.start, on.base, nodes, rest, best, found) held
 
 -- where what is found may be found by another judge too, a step of one is a step of the other
 pub step-wider : (Finds Others : Option ℕ → List ℕ → Finding → Type 0) (items : List Item) (from : List ℕ)
@@ -123,25 +144,13 @@ steps-append Finds items from m zero x y z before after = rw (add-zero m, after)
 steps-append Finds items from m (suc n) x y z before after =
     rw (add-suc m n) (after.0, steps-append Finds items from m n x y after.0 before after.1, after.2)
 
--- a step of the code
-pub stepped : (Finds : Option ℕ → List ℕ → Finding → Type 0) (problem : Parts) (old new : Search)
-    (finding given : Finding) (x : Searched)
-    → IsAt problem old x → old.open ≡ true → Finds old.best (labels_of old.partial) given → given ≡ finding
-    → GoesOn problem old new
-    → (finding ≡ Parted → length (labels_of old.partial) < length (items_of problem old))
-    → new.nodes.items ≡ old.nodes.items
-    ++ node_after finding (length (options_of (items_of problem old) (labels_of old.partial))) ∷ []
-    → agenda (items_of problem old) old.base (labels_of new.partial) new.open
-    ≡ opens_after (items_of problem old) (labels_of old.partial) finding
-    ++ places_left (items_of problem old) old.base (labels_of old.partial)
-    → new.best ≡ best_after finding old.best
-    → new.found ≡ found_after finding (labels_of old.partial) old.found
-    → (y : Searched) × Step Finds (items_of problem old) (start_of old) x y × IsAt problem new y
-stepped Finds problem old new finding given x at is_open finds is on some nodes rest best found = (
-  after (items_of problem old) (labels_of old.partial) finding x,
-  is-step Finds problem old finding x at is_open (rw is at finds),
-  at-after problem old new finding x at is_open on some nodes rest best found,
-)
+-- a step and then so many
+pub steps-one_first : (Finds : Option ℕ → List ℕ → Finding → Type 0) (items : List Item) (from : List ℕ)
+    (n : ℕ) (x y z : Searched)
+    → Step Finds items from x y → Steps Finds items from n y z → Steps Finds items from (n + 1) x z
+steps-one_first Finds items from n x y z first rest =
+    let e : n + 1 ≡ 1 + n = omega arith in
+    rw e (steps-append Finds items from 1 n x y z (x, refl, first) rest)
 
 -- a step over items and from a start that are the same ones, of another judge that may find the same
 pub step-back : (Finds Others : List Item → Option ℕ → List ℕ → Finding → Type 0) (items items' : List Item)
@@ -152,3 +161,17 @@ pub step-back : (Finds Others : List Item → Option ℕ → List ℕ → Findin
     → Step (Finds items') items' from' x y → Step (Others items) items from x y
 step-back Finds Others items items' from from' x y e f wider step =
     step-wider (Finds items) (Others items) items from x y wider (rw (e, f) at step)
+
+-- so are so many steps
+pub steps-back : (Finds Others : List Item → Option ℕ → List ℕ → Finding → Type 0) (items items' : List Item)
+    (from from' : List ℕ) (n : ℕ) (x y : Searched)
+    → items' ≡ items → from' ≡ from
+    → ((best : Option ℕ) (p : List ℕ) (finding : Finding) → Finds items best p finding
+    → Others items best p finding)
+    → Steps (Finds items') items' from' n x y → Steps (Others items) items from n x y
+steps-back Finds Others items items' from from' zero x y e f wider steps = steps
+steps-back Finds Others items items' from from' (suc n) x y e f wider steps = (
+  steps.0,
+  steps-back Finds Others items items' from from' n x steps.0 e f wider steps.1,
+  step-back Finds Others items items' from from' steps.0 y e f wider steps.2,
+)

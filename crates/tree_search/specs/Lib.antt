@@ -1,8 +1,10 @@
 pub mod Build
 pub mod Count
 pub mod Flat
+pub mod Going
 pub mod Open
 pub mod Shown
 pub mod Sound
 pub mod Step
 pub mod Trim
+pub mod Walks

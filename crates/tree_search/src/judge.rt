@@ -1,5 +1,5 @@
 //! Who says what is found at a place of a search.
-ghost use Rattle.std.specs.Prelude.{ℕ, ◌≡◌, ◌<◌, ◌++◌, true, List, [], ◌∷◌, Option, length, IfOk};
+ghost use Rattle.std.specs.Prelude.{ℕ, ◌≡◌, ◌<◌, ◌++◌, List, true, [], ◌∷◌, Option, length, IfOk};
 ghost use Rattle.pack_model.specs.declared.item.Item.{Item};
 ghost use Rattle.pack_model.specs.Problem.{Parts};
 ghost use Rattle.grouping_tree.specs.Grouped.{Belongs, labels_of, range_of};
@@ -40,8 +40,10 @@ pub trait Judge {
     ) -> bool
         requires belongs { Belongs problem.now partial.now }
         requires suits { suits self.now problem.now (range_of problem.now partial.now) }
-        requires legal { IsPartial (range_of problem.now partial.now) (labels_of partial.now ++ label ∷ []) }
-        ensures { result ≡ true → finds self.now problem.now (range_of problem.now partial.now) best (labels_of partial.now ++ label ∷ []) Finding.Bounded };
+        requires legal { IsPartial (range_of problem.now partial.now)
+            (labels_of partial.now ++ label ∷ []) }
+        ensures { result ≡ true → finds self.now problem.now (range_of problem.now partial.now) best
+            (labels_of partial.now ++ label ∷ []) Finding.Bounded };
 
     /// What is found, where `best` is the best load so far in ticks a common period, if there is one. After an
     /// error nothing is known of the judge but what it may find.

@@ -1,44 +1,29 @@
-use Rattle.tree_search.specs.declared.finding.Finding.TheVariants.{Bounded, Failed, Complete, Parted}
-use Rattle.tree_search.specs.Shown.{items_of}
-use Rattle.tree_search.proofs.Steps.{stepped}
+use Rattle.grouping_tree.specs.Grouped.{labels_of}
+use Rattle.grouping_tree.specs.Walk.{places_left}
+use Rattle.tree_search.specs.Shown.{items_of, start_of}
+use Rattle.tree_search.specs.Step.{after}
+use Rattle.tree_search.proofs.Steps.{held-open, held-step, steps-back, steps-one_first}
 use Rattle.tree_search.proofs.search.Search.step.Goals as goal
 
-pub returns-in_ok-close-in-Bounded-clause-gives : goal.returns-in_ok-close-in-Bounded-clause-gives
-returns-in_ok-close-in-Bounded-clause-gives g c = λ x at.
+pub returns-clause-gives : goal.returns-clause-gives
+returns-clause-gives g c = λ x at.
     let problem = c.args.problem.now in
     let old = c.args.self.now in
-    let told = c.in_ok-close-in-Bounded.ensures in
-    stepped (g.J.Judge.finds c.args.judge.now problem (items_of problem old)) problem old c.close.new.self
-    Bounded c.in_ok-finding.finding x at
-    c.requires.open c.in_ok-finding.ensures.found c.in-Bounded.is told.goes_on
-    (λ e. cc) told.nodes told.rest told.best told.found
-
-pub returns-in_ok-close-in-Failed-clause-gives : goal.returns-in_ok-close-in-Failed-clause-gives
-returns-in_ok-close-in-Failed-clause-gives g c = λ x at.
-    let problem = c.args.problem.now in
-    let old = c.args.self.now in
-    let told = c.in_ok-close-in-Failed.ensures in
-    stepped (g.J.Judge.finds c.args.judge.now problem (items_of problem old)) problem old
-    c.close-in-Failed.new.self (Failed c.in-Failed.refuted) c.in_ok-finding.finding x at
-    c.requires.open c.in_ok-finding.ensures.found c.in-Failed.is told.goes_on
-    (λ e. cc) told.nodes told.rest told.best told.found
-
-pub returns-in_ok-complete-in-Complete-clause-gives : goal.returns-in_ok-complete-in-Complete-clause-gives
-returns-in_ok-complete-in-Complete-clause-gives g c = λ x at.
-    let problem = c.args.problem.now in
-    let old = c.args.self.now in
-    let told = c.in_ok-complete-in-Complete.ensures in
-    stepped (g.J.Judge.finds c.args.judge.now problem (items_of problem old)) problem old c.complete.new.self
-    (Complete c.in-Complete.load c.in-Complete.order) c.in_ok-finding.finding x at
-    c.requires.open c.in_ok-finding.ensures.found c.in-Complete.is told.goes_on
-    (λ e. cc) told.nodes told.rest told.best told.found
-
-pub returns-in_ok-part-in-Parted-clause-gives : goal.returns-in_ok-part-in-Parted-clause-gives
-returns-in_ok-part-in-Parted-clause-gives g c = λ x at.
-    let problem = c.args.problem.now in
-    let old = c.args.self.now in
-    let told = c.in_ok-part-in-Parted.ensures in
-    stepped (g.J.Judge.finds c.args.judge.now problem (items_of problem old)) problem old c.part.new.self
-    Parted c.in_ok-finding.finding x at
-    c.requires.open c.in_ok-finding.ensures.found c.in-Parted.is told.goes_on
-    (λ e. c.in_ok-finding.ensures.left c.in-Parted.is) told.nodes told.rest told.best told.found
+    let items = items_of problem old in
+    let p = labels_of old.partial in
+    let here = c.settle.new.self in
+    let on = c.in_ok-from.ensures.goes_on in
+    let finding = c.in_ok-finding.finding in
+    let passed = c.in_ok-passed.passed in
+    let y = after items p finding x in
+    let rest = c.in_ok-passed.ensures.gives y (c.in_ok-from.ensures.gives x at) in (
+      rest.0,
+      steps-one_first (g.J.Judge.finds c.args.judge.now problem items) items (start_of old) passed x y rest.0
+          (held-step (g.J.Judge.finds c.args.judge.now problem items) items (start_of old) old.nodes.items p
+          (places_left items old.base p) finding old.best old.found x
+          (held-open problem old x at c.requires.open) c.in_ok-finding.ensures.found)
+          (steps-back (g.J.Judge.finds c.find.new.self problem) (g.J.Judge.finds c.args.judge.now problem)
+          items (items_of problem here) (start_of old) (start_of here) passed y rest.0 on.items on.start
+          (c.find.ensures.same problem items) rest.1),
+      rest.2,
+    )
