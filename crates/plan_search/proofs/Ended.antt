@@ -1,9 +1,10 @@
 -- What a plan ends with is accepted, trimmed, and has a text.
-use Rattle.std.proofs.Common.{◌≡◌, ℕ, ◌*◌, ◌≤◌, true, false, List, [], ◌∷◌, length, get_or, All, Option, None, Some, IfSome, refl, sym, ap, ◌∙◌, subst, arith}
+use Rattle.std.proofs.Common.{◌≡◌, ℕ, ◌*◌, ◌≤◌, true, false, List, [], ◌∷◌, length, get_or, map, All, Option, None, Some, IfSome, refl, sym, ap, ◌∙◌, subst, arith}
 use Rattle.std.proofs.lemmas.List.Elements.{All-nil}
 use Rattle.pack_model.specs.Problem.{Parts, IsProblem, IsSorted}
 use Rattle.pack_model.proofs.Laws.{tests}
 use Rattle.class_frame.specs.Classes.{load_of}
+use Rattle.class_frame.specs.Frame.{least}
 use Rattle.matrix_rows.specs.declared.matrix.MatrixRow.{MatrixRow}
 use Rattle.matrix_text.specs.Frames.{grouping_of}
 use Rattle.matrix_text.specs.Placed.{Placed}
@@ -15,18 +16,20 @@ use Rattle.cert_text.specs.Written.{CertFits, HasRoom, LemmaFits, MainFits}
 use Rattle.bandwidth_bound.specs.Goals.{FailsIn, eighths, main_goal}
 use Rattle.bandwidth_bound.specs.Lemmas.{LemmaStands, LemmasStand, values_of}
 use Rattle.bandwidth_bound.specs.Prices.{lower8_of}
-use Rattle.bandwidth_bound.specs.Rule.{Accepts, MatrixOfKind, TimingOfKind, best_of}
+use Rattle.bandwidth_bound.specs.declared.verdict.Verdict.TheVariants as verdict
+use Rattle.bandwidth_bound.specs.Rule.{Accepts, MatrixOfKind, TimingOfKind, best_of, lower_of}
 use Rattle.bandwidth_bound.specs.Timing.{TimingStands}
 use Rattle.bandwidth_bound.specs.Trees.{Goal, TreeStands, open_places}
 use Rattle.tree_search.specs.declared.finding.Found.{Found}
-use Rattle.tree_search.specs.Open.{has_open}
+use Rattle.tree_search.specs.Open.{has_open, least_of}
 use Rattle.tree_search.specs.Trim.{reaches}
 use Rattle.tree_search.proofs.Counts.{is_trimmed}
 use Rattle.tree_search.proofs.Firsts.{has_open-is, is_more}
 use Rattle.tree_search.proofs.Standing.{stands-along, stands-closed, stands-trim}
-use Rattle.plan_search.specs.Begin.{FoundStands}
+use Rattle.search_judge.specs.Findings.{FoundStands}
 use Rattle.plan_search.specs.declared.planned.Planned.{Planned}
 use Rattle.plan_search.specs.declared.planned.Planned.TheVariants as planned
+use Rattle.plan_search.specs.Ending.{lower_with, verdict_with}
 use Rattle.plan_search.specs.Plan.{Ends, IsShownBy, IsTrimmedPlan, best_cert, cert_of_plan, judged_plan, load_found, none_cert, open_cert, verdict_of_plan}
 use Rattle.plan_search.specs.Searches.{IsTrimmedIn, trimmed, LemmaIsTrimmed}
 use Rattle.plan_search.proofs.FewSenders.{senders_few}
@@ -90,6 +93,21 @@ open_timing : (problem : Parts) (rows : List MatrixRow) (lines : List FrameLine)
     → TimingOfKind KindBetween problem rows lines
 open_timing problem [] lines load e stands = cc
 open_timing problem (row ∷ rows) lines load e stands = stands
+
+-- ---- the verdict
+
+-- the bounds at the open leaves of a main tree
+abbrev bounds : Parts → List (LemmaOf Plain) → Plain → List ℕ
+bounds problem lemmas tree =
+    map (lower8_of problem (values_of problem lemmas) problem.items) (open_places problem.items [] tree)
+
+-- the least of the bounds is told
+between : (best : Option ℕ) (xs : List ℕ)
+    → verdict_with best true (least_of xs) ≡ verdict.Between best (lower_with best (least xs))
+between best [] = refl
+between best (x ∷ xs) = refl
+
+-- ---- what a plan ends with
 
 module _ (problem : Parts) (stands : IsProblem problem) (sorted : IsSorted problem.signals problem.items)
     (lemmas : List (LemmaOf Plain)) (lemmas_stand : LemmasStand problem lemmas) (tree : Plain) where
@@ -283,3 +301,30 @@ module _ (problem : Parts) (stands : IsProblem problem) (sorted : IsSorted probl
   ends_fits one (planned.Spent (Some rows) cert) is h ends =
       spent_fits ends.1.0 (subst (λ b. IfSome b (FoundStands problem)) ends.1.1 is) rows cert.frames ends.1.2
       (subst (λ b. StandsWith (load_found b)) ends.1.1 h) cert ends.1.3
+
+  -- it is what the load of the best grouping and the least bound at the open leaves of the main tree tell
+  pub ends_verdict : (best : Option Found) (plan : Planned) → IfSome best (FoundStands problem)
+      → StandsWith (load_found best) → Ends problem lemmas best tree plan → (lowest : Option ℕ)
+      → lowest ≡ least_of (bounds problem lemmas tree)
+      → verdict_with (load_found best) (has_open tree) lowest ≡ verdict_of_plan problem plan
+  ends_verdict one (planned.Best rows cert) is h ends lowest e =
+      (λ i. verdict_with (load_found (ends.1.1 i)) (ends.0 i) lowest)
+      ∙ ap (λ n. verdict.Best n)
+      (sym (the_load ends.1.0 (subst (λ b. IfSome b (FoundStands problem)) ends.1.1 is) rows cert.frames ends.1.2
+      (subst (λ b. StandsWith (load_found b)) ends.1.1 h)))
+  ends_verdict one (planned.NoSolution cert) is h ends lowest e =
+      λ i. verdict_with (load_found (ends.1 i)) (ends.0 i) lowest
+  ends_verdict one (planned.Spent None cert) is h ends lowest e =
+      (λ i. verdict_with (load_found (ends.1 i)) (ends.0 i) (e i))
+      ∙ between None (bounds problem lemmas tree)
+      ∙ ap (λ (c : CertParts). verdict.Between None (lower_of problem (values_of problem c.lemmas) None c.main_tree))
+      (sym ends.2)
+  ends_verdict one (planned.Spent (Some rows) cert) is h ends lowest e =
+      let load : Option ℕ = Some ends.1.0.load in
+      (λ i. verdict_with (load_found (ends.1.1 i)) (ends.0 i) (e i))
+      ∙ between load (bounds problem lemmas tree)
+      ∙ ap (λ (c : CertParts). verdict.Between load (lower_of problem (values_of problem c.lemmas) load c.main_tree))
+      (sym ends.1.3)
+      ∙ ap (λ b. verdict.Between b (lower_of problem (values_of problem cert.lemmas) b cert.main_tree))
+      (sym (the_best ends.1.0 (subst (λ b. IfSome b (FoundStands problem)) ends.1.1 is) rows cert.frames ends.1.2
+      (subst (λ b. StandsWith (load_found b)) ends.1.1 h)))

@@ -9,9 +9,10 @@ use Rattle.class_frame.specs.Classes.{frames_of_classes, load_of}
 use Rattle.class_frame.specs.Frame.{load_of_items, timed_of_items}
 use Rattle.class_frame.specs.Grouping.{class_of}
 use Rattle.class_frame.specs.Legal.{IsLegal}
+use Rattle.search_judge.specs.Findings.{FoundStands}
 use Rattle.tree_search.specs.declared.finding.Found.{Found}
 use Rattle.plan_search.specs.Alone.{labels_alone}
-use Rattle.plan_search.specs.Begin.{FoundStands, IsFirst, IsTimed, IsTimedIf, Turns, better_of, grouping_by_sender}
+use Rattle.plan_search.specs.Begin.{IsFirst, IsTimed, IsTimedIf, Turns, better_of, grouping_by_sender}
 
 -- the load of a grouping is that of its classes as frames
 pub loads-sum : (problem : Parts) (labels ls : List ℕ)

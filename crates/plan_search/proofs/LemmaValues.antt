@@ -1,10 +1,10 @@
 -- The values of lemmas by sender.
-use Rattle.std.proofs.Common.{◌≡◌, ℕ, zero, suc, ◌+◌, ◌-◌, ◌<◌, cond, List, [], ◌∷◌, length, drop, get_or, map, replicate, refl, sym, ap, ◌∙◌, arith}
+use Rattle.std.proofs.Common.{◌≡◌, ℕ, zero, suc, ◌+◌, ◌-◌, ◌<◌, cond, List, [], ◌∷◌, length, drop, get_or, map, All, replicate, refl, sym, ap, ◌∙◌, arith}
 use Rattle.std.specs.List.{range_with_len}
 use Rattle.std.proofs.Math.ListN.{set}
 use Rattle.std.proofs.Math.Seq.{drop-cons}
 use Rattle.std.proofs.lemmas.Bool.{eq-eqb, ne_eqb}
-use Rattle.std.proofs.lemmas.List.{drop_all, length-map}
+use Rattle.std.proofs.lemmas.List.{drop_all, get_or-map, length-map}
 use Rattle.std.proofs.lemmas.List.FromFn.{length-range_with_len}
 use Rattle.pack_model.specs.Problem.{Parts}
 use Rattle.cert_text.specs.declared.parts.Lemma.{Lemma}
@@ -80,3 +80,13 @@ pub length-values : (problem : Parts) (lemmas : List (LemmaOf Plain))
 length-values problem lemmas =
     length-map (range_with_len 0 (length problem.senders)) (value_of lemmas)
     ∙ length-range_with_len 0 (length problem.senders)
+
+-- where the senders of lemmas are there, they are of the lemmas that the code holds
+pub senders-low : (problem : Parts) (lemmas : List Lemma)
+    → All (λ (lemma : LemmaOf Plain). lemma.sender < length problem.senders) (map plain_lemma lemmas)
+    → All (λ (lemma : Lemma). lemma.sender < length problem.senders) lemmas
+senders-low problem lemmas low k d lt = omega (
+  arith,
+  low k (plain_lemma d) (omega (arith, lt, length-map lemmas plain_lemma)),
+  ap (λ (l : LemmaOf Plain). l.sender) (get_or-map plain_lemma lemmas k d (plain_lemma d) lt),
+)

@@ -4,13 +4,15 @@ use Rattle.pack_model.specs.Problem.{Parts, IsProblem, IsSorted}
 use Rattle.priority_assign.specs.Lowest.{IsLowestFirst}
 use Rattle.priority_assign.proofs.OneOrder.{one_order}
 use Rattle.class_frame.specs.Legal.{IsLegal}
+use Rattle.grouping_tree.proofs.Fronts.{legal-partial}
 use Rattle.matrix_rows.specs.declared.matrix.MatrixRow.{MatrixRow}
 use Rattle.cert_text.specs.declared.parts.FrameLine.{FrameLine}
 use Rattle.cert_text.specs.Parts.{LemmaOf}
 use Rattle.cert_text.specs.Trees.{Plain}
 use Rattle.bandwidth_bound.specs.Lemmas.{values_of}
+use Rattle.bandwidth_bound.proofs.Final.{all_items, frames_in_range}
 use Rattle.search_judge.specs.Findings.{frames_at}
-use Rattle.search_judge.specs.Laws.{FindingsShow, OneIsFound}
+use Rattle.search_judge.specs.Laws.{OneIsFound}
 use Rattle.tree_search.specs.declared.finding.Found.{Found}
 use Rattle.tree_search.specs.Open.{has_open}
 use Rattle.tree_search.specs.Step.{Searched}
@@ -20,7 +22,6 @@ use Rattle.plan_search.specs.Alone.{labels_alone}
 use Rattle.plan_search.specs.Begin.{AreTurns, IsFirst, IsTimed, IsTimedIf, IsTurn, Turns, after_turn, better_of, grouping_by_sender, lemma_of, share_of, turn_count}
 use Rattle.plan_search.specs.Searches.{IsSearch}
 use Rattle.plan_search.specs.Plan.{Ends, IsPlanOf, IsShownBy, best_cert, last_found, load_found, open_cert}
-use Rattle.plan_search.proofs.Founds.{frames_in_range}
 use Rattle.plan_search.proofs.OnePlan.{one_list}
 use Rattle.plan_search.proofs.OneSearch.{search_one}
 
@@ -31,7 +32,11 @@ module _ (problem : Parts) (stands : IsProblem problem) (sorted : IsSorted probl
       → IsLowestFirst (frames_at problem labels) problem.network.nominal_ticks 0 other → order ≡ other
   order_one labels order other legal it that =
       one_order (frames_at problem labels) problem.network.nominal_ticks
-      (record { in_range = frames_in_range problem stands sorted labels legal; some_bit = stands.network.nominal_low })
+      (record {
+        in_range = frames_in_range problem stands problem.items (all_items problem) labels
+            (legal-partial problem.items labels legal);
+        some_bit = stands.network.nominal_low;
+      })
       order other it.fills that.fills
 
   -- a grouping in time is one
@@ -62,14 +67,14 @@ module _ (problem : Parts) (stands : IsProblem problem) (sorted : IsSorted probl
       timed_one (labels_alone problem) it.alone that.alone it.alone_is that.alone_is in
       it.first_is ∙ (λ i. better_of (together i) (alone i)) ∙ sym that.first_is
 
-  module _ (shows : FindingsShow) (one : OneIsFound) where
+  module _ (one : OneIsFound) where
     -- a sender's turn goes in one way
     turn_one : (sender : ℕ) (before after other : Turns) → IsTurn problem sender before after
         → IsTurn problem sender before other → after ≡ other
     turn_one sender before after other it that = by (has_open that.end.tree) refl
       where
         same : it.end ≡ that.end
-        same = search_one problem stands shows one (Some sender) [] None
+        same = search_one problem stands one (Some sender) [] None
             (share_of before.left (length problem.senders - sender)) it.end that.end it.search that.search
 
         by : (b : Bool) → has_open that.end.tree ≡ b → after ≡ other
@@ -156,12 +161,12 @@ module _ (problem : Parts) (lemmas : List (LemmaOf Plain)) (best : Option Found)
       λ i. planned.Spent (Some (shown.0 i)) (equal i)
 
 -- there is one plan
-pub plan_one : (problem : Parts) (shows : FindingsShow) (one : OneIsFound) (branches : ℕ) (plan other : Planned)
+pub plan_one : (problem : Parts) (one : OneIsFound) (branches : ℕ) (plan other : Planned)
     → IsProblem problem → IsSorted problem.signals problem.items → IsPlanOf problem branches plan
     → IsPlanOf problem branches other → plan ≡ other
-plan_one problem shows one branches plan other stands sorted it that =
+plan_one problem one branches plan other stands sorted it that =
     let turns : it.begins.turns ≡ that.begins.turns =
-    turns_one problem stands sorted shows one branches (turn_count problem) it.begins.turns that.begins.turns
+    turns_one problem stands sorted one branches (turn_count problem) it.begins.turns that.begins.turns
     it.begins.are that.begins.are in
     let lemmas : it.lemmas ≡ that.lemmas =
     it.begins.lemmas_are ∙ ap (λ (t : Turns). t.lemmas) turns ∙ sym that.begins.lemmas_are in
@@ -175,7 +180,7 @@ plan_one problem shows one branches plan other stands sorted it that =
     (subst (λ f. IsSearch problem None (values_of problem it.lemmas) (load_found f) that.left it.end) first
     (subst (λ n. IsSearch problem None (values_of problem it.lemmas) (load_found it.first) n it.end) left it.search)) in
     let end : it.end ≡ that.end =
-    search_one problem stands shows one None (values_of problem that.lemmas) (load_found that.first) that.left
+    search_one problem stands one None (values_of problem that.lemmas) (load_found that.first) that.left
     it.end that.end search that.search in
     let ends : Ends problem that.lemmas (last_found that.end.found that.first) that.end.tree plan =
     subst (λ ls. Ends problem ls (last_found that.end.found that.first) that.end.tree plan) lemmas

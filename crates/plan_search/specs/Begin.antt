@@ -6,7 +6,6 @@ use Rattle.response_test.specs.Order.{OrderPasses}
 use Rattle.priority_assign.specs.Lowest.{IsLowestFirst}
 use Rattle.class_frame.specs.Classes.{load_of}
 use Rattle.class_frame.specs.Grouping.{classes_of}
-use Rattle.class_frame.specs.Legal.{IsLegal}
 use Rattle.cert_text.specs.Parts.{LemmaOf}
 use Rattle.cert_text.specs.Trees.{Plain}
 use Rattle.bandwidth_bound.specs.Solvable.{Solvable}
@@ -117,14 +116,6 @@ pub record IsFirst (problem : Parts) (turns : Turns) (first : Option Found) : Ty
   pub together_is : IsTimedIf problem (grouping_by_sender problem turns) together
   pub alone_is : IsTimed problem (labels_alone problem) alone
   pub first_is : first ≡ better_of together alone
-
--- a legal grouping of all items with the order of lowest-priority-first assignment, in which each frame passes, and
--- its load
-pub record FoundStands (problem : Parts) (found : Found) : Type 0 where
-  pub legal : IsLegal problem.items found.labels
-  pub lowest_first : IsLowestFirst (frames_at problem found.labels) problem.network.nominal_ticks 0 found.order
-  pub passes : OrderPasses (frames_at problem found.labels) problem.network.nominal_ticks found.order
-  pub load_is : found.load ≡ load_of problem problem.items found.labels
 
 -- how many senders have a turn
 abbrev pub turn_count : Parts → ℕ

@@ -1,4 +1,4 @@
-use Rattle.std.proofs.Common.{◌≡◌, ◌*◌, ◌<◌, ◌^◌, ◌++◌, [], List, map, true, IfSome, sym, ap, ◌∙◌, subst}
+use Rattle.std.proofs.Common.{◌≡◌, ◌*◌, ◌<◌, ◌^◌, ◌++◌, [], List, All, length, map, true, IfSome, sym, ap, ◌∙◌, subst}
 use Rattle.std.specs.List.{list_any}
 use Rattle.cert_text.specs.declared.parts.Lemma.{Lemma}
 use Rattle.cert_text.specs.PlainTree.{plain_lemma, plain_of}
@@ -12,6 +12,7 @@ use Rattle.tree_search.proofs.Standing.{has_options}
 use Rattle.plan_search.specs.Ending.{final_tree, is_left}
 use Rattle.plan_search.specs.Plan.{load_found}
 use Rattle.plan_search.proofs.Ended.{ends_accepted, ends_fits, ends_trimmed}
+use Rattle.plan_search.proofs.LemmaValues.{senders-low}
 use Rattle.plan_search.proofs.OpenFlat.{open-flat}
 use Rattle.plan_search.proofs.SearchEnds.{found_fits}
 use Rattle.plan_search.proofs.finishing.finish.Goals as goal
@@ -19,6 +20,12 @@ use Rattle.plan_search.proofs.finishing.finish.Goals as goal
 -- a load in eighths fits
 the_fit : LoadsFit
 the_fit problem stands items of p partial few = loads_fit problem stands items of p partial few
+
+pub final_nodes-requires-clause-lemmas : goal.final_nodes-requires-clause-lemmas
+final_nodes-requires-clause-lemmas c =
+    let problem = c.args.problem.now in
+    subst (All (λ (lemma : Lemma). lemma.sender < length problem.senders)) (sym c.deref-2.ensures.value)
+    (senders-low problem c.args.lemmas.items (λ k d lt. (c.requires.lemmas.each k d lt).0))
 
 pub final_nodes-requires-clause-low : goal.final_nodes-requires-clause-low
 final_nodes-requires-clause-low c =
