@@ -40,7 +40,8 @@ class-after c k [] ys = refl
 class-after c k (l ∷ q) [] = refl
 class-after {X} c k (l ∷ q) (y ∷ ys) =
     class_of-cons (c + k) (c + l) (after c q) y ys
-    ∙ ap (λ b. cond b (y ∷ class_of (c + k) (after c q) ys) (class_of (c + k) (after c q) ys)) (same (cases_eq l k))
+    ∙ ap (λ b. cond b (y ∷ class_of (c + k) (after c q) ys) (class_of (c + k) (after c q) ys))
+    (same (cases_eq l k))
     ∙ ap (λ (zs : List X). cond (nat_eq l k) (y ∷ zs) zs) (class-after c k q ys)
     ∙ sym (class_of-cons k l q y ys)
   where
@@ -168,7 +169,8 @@ after-none (l ∷ labels) =
     ap (λ m. m ∷ after 0 labels) e ∙ ap (λ (ms : List ℕ). l ∷ ms) (after-none labels)
 
 -- put together after so many classes more
-put-after : (c d : ℕ) (groupings : List (List ℕ)) → put_together (c + d) groupings ≡ after c (put_together d groupings)
+put-after : (c d : ℕ) (groupings : List (List ℕ)) → put_together (c + d) groupings
+    ≡ after c (put_together d groupings)
 put-after c d [] = refl
 put-after c d (g ∷ gs) =
     let e : c + d + classes_of g ≡ c + (d + classes_of g) = omega arith in
@@ -187,7 +189,8 @@ put-first g gs =
     ∙ ap (λ ls. g ++ ls) (put-after (classes_of g) 0 gs)
 
 -- there are as many classes as in all of them
-pub classes-together : (groupings : List (List ℕ)) → classes_of (put_together 0 groupings) ≡ sum_by classes_of groupings
+pub classes-together : (groupings : List (List ℕ)) → classes_of (put_together 0 groupings)
+    ≡ sum_by classes_of groupings
 classes-together [] = refl
 classes-together (g ∷ gs) =
     omega (
@@ -234,7 +237,8 @@ sent-other : (xs : List Item) (t s : ℕ) → (t ≡ s → ⊥) → sent_by (sen
 sent-other [] t s ne = refl
 sent-other (x ∷ xs) t s ne = by (cases_eq x.sender t) (sent-other xs t s ne)
   where
-    by : (x.sender ≡ t) ⊎ (x.sender ≡ t → ⊥) → sent_by (sent_by xs t) s ≡ [] → sent_by (sent_by (x ∷ xs) t) s ≡ []
+    by : (x.sender ≡ t) ⊎ (x.sender ≡ t → ⊥) → sent_by (sent_by xs t) s ≡ [] → sent_by (sent_by (x ∷ xs) t) s
+        ≡ []
     by (inl e) ih = rw (eq-eqb x.sender t e, ne_eqb x.sender s (λ f. ne (sym e ∙ f))) ih
     by (inr n) ih = rw (ne_eqb x.sender t n) ih
 
@@ -294,7 +298,8 @@ items-by_sender problem stands =
     let n = length problem.senders in
     let it = tests problem stands in
     let items : problem.items ≡ flat_map (sent_by xs) (range_with_len 0 n) =
-    it.items ∙ ap (λ (l : List (List ℕ)). flat_map (sent_by xs) (range_with_len 0 (length l))) (sym it.senders) in
+    it.items ∙ ap (λ (l : List (List ℕ)). flat_map (sent_by xs) (range_with_len 0 (length l)))
+    (sym it.senders) in
     each-agrees (sent_by problem.items) (sent_by xs) 0 n (λ s le lt.
     ap (λ ys. sent_by ys s) items ∙ sent-among xs s 0 n le lt)
     ∙ sym items
@@ -316,7 +321,8 @@ legal-all problem groupings stands all each =
 -- one label more
 pub classes-more : (labels : List ℕ) (i : ℕ) → i < length labels
     → classes_of (take (i + 1) labels) ≡ max (classes_of (take i labels)) (get_or labels i 0 + 1)
-classes-more labels i lt = ap classes_of (take_more labels i 0 lt) ∙ classes_of-push (take i labels) (get_or labels i 0)
+classes-more labels i lt = ap classes_of (take_more labels i 0 lt)
+    ∙ classes_of-push (take i labels) (get_or labels i 0)
 
 -- the element at a place, with the default that it is
 module _ (groupings : List (List ℕ)) (own : List ℕ) (i : ℕ) (lt : i < length groupings)

@@ -71,7 +71,8 @@ module _ (problem : Parts) (values : List ℕ) where
       → TreeStands (main_goal problem values (Some load) true) [] t
       → TreeStands (main_goal problem values (Some load) false) [] (trimmed problem None values (8 * load) t)
   trimmed_stands load t e h =
-      stands-trim (main_goal problem values (Some load) false) (8 * load) refl [] t (closed_stands (Some load) t e h)
+      stands-trim (main_goal problem values (Some load) false) (8 * load) refl [] t
+      (closed_stands (Some load) t e h)
 
   -- without a best the values of lemmas do not count
   none_stands : (others : List ℕ) (t : Plain) → TreeStands (main_goal problem values None false) [] t
@@ -145,18 +146,22 @@ module _ (problem : Parts) (stands : IsProblem problem) (sorted : IsSorted probl
         placed problem stands sorted found.labels is.legal found.order is.lowest_first rows shown.matrix
 
     the_timing : TimingStands problem rows lines
-    the_timing = timing problem stands sorted found.labels is.legal found.order is.lowest_first rows shown.matrix
+    the_timing = timing problem stands sorted found.labels is.legal found.order is.lowest_first rows
+        shown.matrix
         lines shown.lines_are
 
     the_lines : All HasRoom lines
     the_lines =
-        lines_have_room problem stands sorted found.labels is.legal found.order is.lowest_first lines shown.lines_are
+        lines_have_room problem stands sorted found.labels is.legal found.order is.lowest_first lines
+        shown.lines_are
 
     best_accepted : has_open tree ≡ false → (cert : CertParts)
         → cert ≡ best_cert problem lines lemmas found.load tree
-        → Accepts (judged_plan problem (planned.Best rows cert)) (verdict_of_plan problem (planned.Best rows cert))
+        → Accepts (judged_plan problem (planned.Best rows cert))
+        (verdict_of_plan problem (planned.Best rows cert))
     best_accepted closed cert e =
-        subst (λ c. Accepts (judged_plan problem (planned.Best rows c)) (verdict_of_plan problem (planned.Best rows c)))
+        subst (λ c. Accepts (judged_plan problem (planned.Best rows c))
+        (verdict_of_plan problem (planned.Best rows c)))
         (sym e) (record {
           rule = record {
             matrix = the_matrix;
@@ -172,14 +177,16 @@ module _ (problem : Parts) (stands : IsProblem problem) (sorted : IsSorted probl
         })
 
     best_trimmed : All (LemmaIsTrimmed problem) lemmas → (cert : CertParts)
-        → cert ≡ best_cert problem lines lemmas found.load tree → IsTrimmedPlan problem (planned.Best rows cert)
+        → cert ≡ best_cert problem lines lemmas found.load tree
+        → IsTrimmedPlan problem (planned.Best rows cert)
     best_trimmed all cert e =
         subst (λ c. IsTrimmedPlan problem (planned.Best rows c)) (sym e) (
           all,
           subst (λ load. IsTrimmedIn problem None (values_of problem lemmas) (8 * load)
               (trimmed problem None (values_of problem lemmas) (8 * found.load) tree)) (sym the_load)
               (is_trimmed problem.items
-              (reaches (lower8_of problem (values_of problem lemmas) problem.items) (8 * found.load)) [] tree),
+              (reaches (lower8_of problem (values_of problem lemmas) problem.items) (8 * found.load)) []
+              tree),
         )
 
     spent_accepted : has_open tree ≡ true → (cert : CertParts) → cert ≡ open_cert lines lemmas tree
@@ -194,16 +201,19 @@ module _ (problem : Parts) (stands : IsProblem problem) (sorted : IsSorted probl
             tree = (
               record {
                 lemmas = lemmas_stand;
-                main = subst (λ load. TreeStands (main_goal problem (values_of problem lemmas) load true) [] tree)
+                main = subst (λ load. TreeStands (main_goal problem (values_of problem lemmas) load true) []
+                    tree)
                     (sym the_best) h;
               },
-              opened_places (main_goal problem (values_of problem lemmas) (Some found.load) true) [] tree h opened,
+              opened_places (main_goal problem (values_of problem lemmas) (Some found.load) true) [] tree h
+                  opened,
             );
           };
           of_kind = (refl, refl, refl);
         })
 
-    best_fits : has_open tree ≡ false → (cert : CertParts) → cert ≡ best_cert problem lines lemmas found.load tree
+    best_fits : has_open tree ≡ false → (cert : CertParts) → cert
+        ≡ best_cert problem lines lemmas found.load tree
         → CertFits cert
     best_fits closed cert e =
         subst CertFits (sym e) (record {
@@ -223,15 +233,21 @@ module _ (problem : Parts) (stands : IsProblem problem) (sorted : IsSorted probl
         })
 
   none_accepted : StandsWith None → has_open tree ≡ false → (cert : CertParts) → cert ≡ none_cert tree
-      → Accepts (judged_plan problem (planned.NoSolution cert)) (verdict_of_plan problem (planned.NoSolution cert))
+      → Accepts (judged_plan problem (planned.NoSolution cert))
+      (verdict_of_plan problem (planned.NoSolution cert))
   none_accepted h closed cert e =
-      subst (λ c. Accepts (judged_plan problem (planned.NoSolution c)) (verdict_of_plan problem (planned.NoSolution c)))
+      subst (λ c. Accepts (judged_plan problem (planned.NoSolution c))
+      (verdict_of_plan problem (planned.NoSolution c)))
       (sym e) (record {
         rule = record {
           matrix = refl;
           timing = refl;
           tree = record {
-            lemmas = record { ascending = λ k lt. absurd (omega arith); each = All-nil (LemmaStands problem) };
+            lemmas = record {
+              ascending = λ k lt. absurd (omega arith);
+              each =
+                  All-nil (LemmaStands problem);
+            };
             main = none_stands problem (values_of problem lemmas) (values_of problem []) tree
                 (closed_stands problem (values_of problem lemmas) None tree closed h);
           };
@@ -239,8 +255,10 @@ module _ (problem : Parts) (stands : IsProblem problem) (sorted : IsSorted probl
         of_kind = refl;
       })
 
-  without_accepted : StandsWith None → has_open tree ≡ true → (cert : CertParts) → cert ≡ open_cert [] lemmas tree
-      → Accepts (judged_plan problem (planned.Spent None cert)) (verdict_of_plan problem (planned.Spent None cert))
+  without_accepted : StandsWith None → has_open tree ≡ true → (cert : CertParts) → cert
+      ≡ open_cert [] lemmas tree
+      → Accepts (judged_plan problem (planned.Spent None cert))
+      (verdict_of_plan problem (planned.Spent None cert))
   without_accepted h opened cert e =
       subst (λ c. Accepts (judged_plan problem (planned.Spent None c))
       (verdict_of_plan problem (planned.Spent None c))) (sym e) (record {
@@ -260,22 +278,26 @@ module _ (problem : Parts) (stands : IsProblem problem) (sorted : IsSorted probl
       → StandsWith (load_found best) → Ends problem lemmas best tree plan
       → Accepts (judged_plan problem plan) (verdict_of_plan problem plan)
   ends_accepted one (planned.Best rows cert) is h ends =
-      best_accepted ends.1.0 (subst (λ b. IfSome b (FoundStands problem)) ends.1.1 is) rows cert.frames ends.1.2
+      best_accepted ends.1.0 (subst (λ b. IfSome b (FoundStands problem)) ends.1.1 is) rows cert.frames
+      ends.1.2
       (subst (λ b. StandsWith (load_found b)) ends.1.1 h) ends.0 cert ends.1.3
   ends_accepted one (planned.NoSolution cert) is h ends =
       none_accepted (subst (λ b. StandsWith (load_found b)) ends.1 h) ends.0 cert ends.2
   ends_accepted one (planned.Spent None cert) is h ends =
       without_accepted (subst (λ b. StandsWith (load_found b)) ends.1 h) ends.0 cert ends.2
   ends_accepted one (planned.Spent (Some rows) cert) is h ends =
-      spent_accepted ends.1.0 (subst (λ b. IfSome b (FoundStands problem)) ends.1.1 is) rows cert.frames ends.1.2
+      spent_accepted ends.1.0 (subst (λ b. IfSome b (FoundStands problem)) ends.1.1 is) rows cert.frames
+      ends.1.2
       (subst (λ b. StandsWith (load_found b)) ends.1.1 h) ends.0 cert ends.1.3
 
   -- it is trimmed where the lemmas are
   pub ends_trimmed : (best : Option Found) (plan : Planned) → IfSome best (FoundStands problem)
-      → StandsWith (load_found best) → All (LemmaIsTrimmed problem) lemmas → Ends problem lemmas best tree plan
+      → StandsWith (load_found best) → All (LemmaIsTrimmed problem) lemmas
+      → Ends problem lemmas best tree plan
       → IsTrimmedPlan problem plan
   ends_trimmed one (planned.Best rows cert) is h all ends =
-      best_trimmed ends.1.0 (subst (λ b. IfSome b (FoundStands problem)) ends.1.1 is) rows cert.frames ends.1.2
+      best_trimmed ends.1.0 (subst (λ b. IfSome b (FoundStands problem)) ends.1.1 is) rows cert.frames
+      ends.1.2
       (subst (λ b. StandsWith (load_found b)) ends.1.1 h) all cert ends.1.3
   ends_trimmed one (planned.NoSolution cert) is h all ends = ap (λ (c : CertParts). c.lemmas) ends.2
   ends_trimmed one (planned.Spent rows cert) is h all ends = tt
@@ -310,21 +332,25 @@ module _ (problem : Parts) (stands : IsProblem problem) (sorted : IsSorted probl
   ends_verdict one (planned.Best rows cert) is h ends lowest e =
       (λ i. verdict_with (load_found (ends.1.1 i)) (ends.0 i) lowest)
       ∙ ap (λ n. verdict.Best n)
-      (sym (the_load ends.1.0 (subst (λ b. IfSome b (FoundStands problem)) ends.1.1 is) rows cert.frames ends.1.2
+      (sym (the_load ends.1.0 (subst (λ b. IfSome b (FoundStands problem)) ends.1.1 is) rows cert.frames
+      ends.1.2
       (subst (λ b. StandsWith (load_found b)) ends.1.1 h)))
   ends_verdict one (planned.NoSolution cert) is h ends lowest e =
       λ i. verdict_with (load_found (ends.1 i)) (ends.0 i) lowest
   ends_verdict one (planned.Spent None cert) is h ends lowest e =
       (λ i. verdict_with (load_found (ends.1 i)) (ends.0 i) (e i))
       ∙ between None (bounds problem lemmas tree)
-      ∙ ap (λ (c : CertParts). verdict.Between None (lower_of problem (values_of problem c.lemmas) None c.main_tree))
+      ∙ ap (λ (c : CertParts). verdict.Between None
+      (lower_of problem (values_of problem c.lemmas) None c.main_tree))
       (sym ends.2)
   ends_verdict one (planned.Spent (Some rows) cert) is h ends lowest e =
       let load : Option ℕ = Some ends.1.0.load in
       (λ i. verdict_with (load_found (ends.1.1 i)) (ends.0 i) (e i))
       ∙ between load (bounds problem lemmas tree)
-      ∙ ap (λ (c : CertParts). verdict.Between load (lower_of problem (values_of problem c.lemmas) load c.main_tree))
+      ∙ ap (λ (c : CertParts). verdict.Between load
+      (lower_of problem (values_of problem c.lemmas) load c.main_tree))
       (sym ends.1.3)
       ∙ ap (λ b. verdict.Between b (lower_of problem (values_of problem cert.lemmas) b cert.main_tree))
-      (sym (the_best ends.1.0 (subst (λ b. IfSome b (FoundStands problem)) ends.1.1 is) rows cert.frames ends.1.2
+      (sym (the_best ends.1.0 (subst (λ b. IfSome b (FoundStands problem)) ends.1.1 is) rows cert.frames
+      ends.1.2
       (subst (λ b. StandsWith (load_found b)) ends.1.1 h)))

@@ -34,7 +34,8 @@ pub found-timed : (problem : Parts) (labels order : List ℕ) (frames : List Tim
     → load ≡ load_of problem problem.items labels
     → IsTimed problem labels (Some (record { labels = labels; order = order; load = load }))
 found-timed problem labels order frames bit load legal are time lowest passes load_is =
-    let passing : OrderPasses (frames_of_classes problem problem.items labels) problem.network.nominal_ticks order =
+    let passing : OrderPasses (frames_of_classes problem problem.items labels) problem.network.nominal_ticks
+    order =
     subst (λ b. OrderPasses (frames_of_classes problem problem.items labels) b order) time
     (subst (λ fs. OrderPasses fs bit order) are passes) in
     let first : IsLowestFirst (frames_of_classes problem problem.items labels) problem.network.nominal_ticks 0
@@ -52,9 +53,11 @@ timed-stands problem labels found it =
     record {
       legal = subst (IsLegal problem.items) same it.0.legal;
       lowest_first =
-          subst (λ l. IsLowestFirst (frames_of_classes problem problem.items l) problem.network.nominal_ticks 0
+          subst (λ l. IsLowestFirst (frames_of_classes problem problem.items l) problem.network.nominal_ticks
+          0
           found.order) same it.1.lowest_first;
-      passes = subst (λ l. OrderPasses (frames_of_classes problem problem.items l) problem.network.nominal_ticks
+      passes = subst (λ l. OrderPasses (frames_of_classes problem problem.items l)
+          problem.network.nominal_ticks
           found.order) same it.1.passes;
       load_is = it.1.load_is ∙ ap (load_of problem problem.items) same;
     }
@@ -69,7 +72,8 @@ timed-if : (problem : Parts) (labels : List ℕ) (found : Option Found) → IsTi
 timed-if problem labels None it = tt
 timed-if problem labels (Some found) it = timed-stands problem labels found it
 
-together-if : (problem : Parts) (labels : Option (List ℕ)) (found : Option Found) → IsTimedIf problem labels found
+together-if : (problem : Parts) (labels : Option (List ℕ)) (found : Option Found)
+    → IsTimedIf problem labels found
     → StandsIf problem found
 together-if problem None found it = subst (StandsIf problem) (sym it) tt
 together-if problem (Some labels) found it = timed-if problem labels found it

@@ -1,4 +1,5 @@
--- A grouping that was found, in its order: its frames, its matrix, and the lines that show that each frame passes.
+-- A grouping that was found, in its order: its frames, its matrix, and the lines that show that each frame
+-- passes.
 use Rattle.std.proofs.Common.{◌≡◌, ℕ, ◌<◌, ◌≤◌, List, [], ◌∷◌, length, get_or, All, Some, refl, sym, ap, ◌∙◌, subst, arith}
 use Rattle.std.specs.List.{range_with_len}
 use Rattle.pack_model.specs.Problem.{Parts, IsProblem, IsSorted}
@@ -49,13 +50,15 @@ show_each bit lines frames order least passes place d inside =
 pub timing_stands : (problem : Parts) (rows : List MatrixRow) (labels order : List ℕ) (lines : List FrameLine)
     → grouping_of problem rows ≡ labels → order_of problem rows ≡ order
     → AreLeastLines (frames_at problem labels) order problem.network.nominal_ticks lines
-    → OrderPasses (frames_at problem labels) problem.network.nominal_ticks order → TimingStands problem rows lines
+    → OrderPasses (frames_at problem labels) problem.network.nominal_ticks order
+    → TimingStands problem rows lines
 timing_stands problem rows labels order lines grouping named least passes =
     let bit : ℕ = problem.network.nominal_ticks in
     record {
       count = least.count ∙ sym (ap length named);
       each =
-          subst (λ ls. ShowEach bit lines (frames_of_classes problem problem.items ls) (order_of problem rows))
+          subst (λ ls. ShowEach bit lines (frames_of_classes problem problem.items ls)
+          (order_of problem rows))
           (sym grouping)
           (subst (ShowEach bit lines (frames_at problem labels)) (sym named)
           (show_each bit lines (frames_at problem labels) order least passes));
@@ -114,7 +117,8 @@ module _ (problem : Parts) (stands : IsProblem problem) (sorted : IsSorted probl
     -- there is a stage at each place
     pub stage_at : (place : ℕ) → place < length order → IsStage (frames_at problem labels) order place
     stage_at place inside =
-        stage problem labels order (frames_at problem labels) stands (front_of problem.items labels legal.grouping)
+        stage problem labels order (frames_at problem labels) stands
+        (front_of problem.items labels legal.grouping)
         (is_order problem labels order lowest) refl
         (frames_in_range problem stands problem.items (all_items problem) labels partial) place inside
 
@@ -145,7 +149,9 @@ module _ (problem : Parts) (stands : IsProblem problem) (sorted : IsSorted probl
 
     -- least lines have a text
     pub lines_have_room : (lines : List FrameLine)
-        → AreLeastLines (frames_at problem labels) order problem.network.nominal_ticks lines → All HasRoom lines
+        → AreLeastLines (frames_at problem labels) order problem.network.nominal_ticks lines
+        → All HasRoom lines
     lines_have_room lines least = λ place d inside.
-        least_has_room (frames_at problem labels) order problem.network.nominal_ticks place (get_or lines place d)
+        least_has_room (frames_at problem labels) order problem.network.nominal_ticks place
+        (get_or lines place d)
         (least.each place d inside) (stage_at place (omega (arith, inside, least.count)))

@@ -25,7 +25,8 @@ use Rattle.plan_search.specs.Plan.{Ends, IsPlanOf, IsShownBy, best_cert, last_fo
 use Rattle.plan_search.proofs.OnePlan.{one_list}
 use Rattle.plan_search.proofs.OneSearch.{search_one}
 
-module _ (problem : Parts) (stands : IsProblem problem) (sorted : IsSorted problem.signals problem.items) where
+module _ (problem : Parts) (stands : IsProblem problem)
+    (sorted : IsSorted problem.signals problem.items) where
   -- a legal grouping has one order of lowest-priority-first assignment
   order_one : (labels order other : List ℕ) → IsLegal problem.items labels
       → IsLowestFirst (frames_at problem labels) problem.network.nominal_ticks 0 order
@@ -62,7 +63,8 @@ module _ (problem : Parts) (stands : IsProblem problem) (sorted : IsSorted probl
       → IsFirst problem turns other → first ≡ other
   first_one turns first other it that =
       let together : it.together ≡ that.together =
-      timed_if_one (grouping_by_sender problem turns) it.together that.together it.together_is that.together_is in
+      timed_if_one (grouping_by_sender problem turns) it.together that.together it.together_is
+      that.together_is in
       let alone : it.alone ≡ that.alone =
       timed_one (labels_alone problem) it.alone that.alone it.alone_is that.alone_is in
       it.first_is ∙ (λ i. better_of (together i) (alone i)) ∙ sym that.first_is
@@ -98,7 +100,8 @@ module _ (problem : Parts) (stands : IsProblem problem) (sorted : IsSorted probl
 
 -- what shows a grouping is one
 shown_one : (problem : Parts) (found found' : Found) → found ≡ found' → (rows others : List MatrixRow)
-    (lines lines' : List FrameLine) → IsShownBy problem found rows lines → IsShownBy problem found' others lines'
+    (lines lines' : List FrameLine) → IsShownBy problem found rows lines
+    → IsShownBy problem found' others lines'
     → (rows ≡ others) × (lines ≡ lines')
 shown_one problem found found' same rows others lines lines' it that =
     let here : IsShownBy problem found' rows lines = subst (λ f. IsShownBy problem f rows lines) same it in (
@@ -114,7 +117,8 @@ not_both b e f = let both : false ≡ true = sym e ∙ f in cc
 not_none : (best : Option Found) (found : Found) → best ≡ Some found → best ≡ None → ⊥
 not_none best found e f = let both : Some found ≡ None = sym e ∙ f in cc
 
-one_found : (best : Option Found) (found other : Found) → best ≡ Some found → best ≡ Some other → found ≡ other
+one_found : (best : Option Found) (found other : Found) → best ≡ Some found → best ≡ Some other → found
+    ≡ other
 one_found best found other e f = let both : Some found ≡ Some other = sym e ∙ f in cc
 
 module _ (problem : Parts) (lemmas : List (LemmaOf Plain)) (best : Option Found) (tree : Plain) where
@@ -123,7 +127,8 @@ module _ (problem : Parts) (lemmas : List (LemmaOf Plain)) (best : Option Found)
       → plan ≡ other
   ends_one (planned.Best rows cert) (planned.Best others cert') it that =
       let same : it.1.0 ≡ that.1.0 = one_found best it.1.0 that.1.0 it.1.1 that.1.1 in
-      let shown = shown_one problem it.1.0 that.1.0 same rows others cert.frames cert'.frames it.1.2 that.1.2 in
+      let shown = shown_one problem it.1.0 that.1.0 same rows others cert.frames cert'.frames it.1.2 that.1.2
+      in
       let equal : cert ≡ cert' = it.1.3 ∙ (λ i. best_cert problem (shown.1 i) lemmas (same i).load tree)
       ∙ sym that.1.3 in
       λ i. planned.Best (shown.0 i) (equal i)
@@ -135,7 +140,8 @@ module _ (problem : Parts) (lemmas : List (LemmaOf Plain)) (best : Option Found)
       absurd (not_both (has_open tree) it.0 that.0)
   ends_one (planned.NoSolution cert) (planned.Best others cert') it that =
       absurd (not_none best that.1.0 that.1.1 it.1)
-  ends_one (planned.NoSolution cert) (planned.NoSolution cert') it that = ap planned.NoSolution (it.2 ∙ sym that.2)
+  ends_one (planned.NoSolution cert) (planned.NoSolution cert') it that =
+      ap planned.NoSolution (it.2 ∙ sym that.2)
   ends_one (planned.NoSolution cert) (planned.Spent None cert') it that =
       absurd (not_both (has_open tree) it.0 that.0)
   ends_one (planned.NoSolution cert) (planned.Spent (Some others) cert') it that =
@@ -156,7 +162,8 @@ module _ (problem : Parts) (lemmas : List (LemmaOf Plain)) (best : Option Found)
       absurd (not_none best it.1.0 it.1.1 that.1)
   ends_one (planned.Spent (Some rows) cert) (planned.Spent (Some others) cert') it that =
       let same : it.1.0 ≡ that.1.0 = one_found best it.1.0 that.1.0 it.1.1 that.1.1 in
-      let shown = shown_one problem it.1.0 that.1.0 same rows others cert.frames cert'.frames it.1.2 that.1.2 in
+      let shown = shown_one problem it.1.0 that.1.0 same rows others cert.frames cert'.frames it.1.2 that.1.2
+      in
       let equal : cert ≡ cert' = it.1.3 ∙ (λ i. open_cert (shown.1 i) lemmas tree) ∙ sym that.1.3 in
       λ i. planned.Spent (Some (shown.0 i)) (equal i)
 
@@ -175,10 +182,12 @@ plan_one problem one branches plan other stands sorted it that =
     let first : it.first ≡ that.first =
     first_one problem stands sorted that.begins.turns it.first that.first
     (subst (λ t. IsFirst problem t it.first) turns it.begins.first_is) that.begins.first_is in
-    let search : IsSearch problem None (values_of problem that.lemmas) (load_found that.first) that.left it.end =
+    let search : IsSearch problem None (values_of problem that.lemmas)
+    (load_found that.first) that.left it.end =
     subst (λ ls. IsSearch problem None (values_of problem ls) (load_found that.first) that.left it.end) lemmas
     (subst (λ f. IsSearch problem None (values_of problem it.lemmas) (load_found f) that.left it.end) first
-    (subst (λ n. IsSearch problem None (values_of problem it.lemmas) (load_found it.first) n it.end) left it.search)) in
+    (subst (λ n. IsSearch problem None (values_of problem it.lemmas) (load_found it.first) n it.end) left
+    it.search)) in
     let end : it.end ≡ that.end =
     search_one problem stands one None (values_of problem that.lemmas) (load_found that.first) that.left
     it.end that.end search that.search in
@@ -186,4 +195,5 @@ plan_one problem one branches plan other stands sorted it that =
     subst (λ ls. Ends problem ls (last_found that.end.found that.first) that.end.tree plan) lemmas
     (subst (λ (x : Searched). Ends problem it.lemmas (last_found x.found that.first) x.tree plan) end
     (subst (λ f. Ends problem it.lemmas (last_found it.end.found f) it.end.tree plan) first it.ends)) in
-    ends_one problem that.lemmas (last_found that.end.found that.first) that.end.tree plan other ends that.ends
+    ends_one problem that.lemmas (last_found that.end.found that.first) that.end.tree plan other ends
+    that.ends

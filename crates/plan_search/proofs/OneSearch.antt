@@ -54,7 +54,8 @@ module _ (problem : Parts) (stands : IsProblem problem) (one : OneIsFound) (rang
       (subst (λ w. Goes w y) before s.2) t.2
 
   -- before the last of some steps there is a step after each number of them
-  earlier : (m n : ℕ) (x z : Searched) → n < m → Makes m x z → (y : Searched) × Makes n x y × (w : Searched) × Goes y w
+  earlier : (m n : ℕ) (x z : Searched) → n < m → Makes m x z → (y : Searched) × Makes n x y × (w : Searched)
+      × Goes y w
   earlier zero n x z lt s = absurd (omega arith)
   earlier (suc m) n x z lt s = by (cases_eq n m) (earlier m n x s.0)
     where
@@ -75,7 +76,8 @@ module _ (problem : Parts) (stands : IsProblem problem) (one : OneIsFound) (rang
         let (y, steps, w, step) = earlier t.made s.made (begun_with best) other less t.steps in
         let same : y ≡ end = steps_one s.made (begun_with best) y end begins steps s.steps in
         let closed : has_open y.tree ≡ false =
-        subst (λ (x : Searched). has_open x.tree ≡ false) (sym same) (s.fewer (omega (arith, less, t.within))) in
+        subst (λ (x : Searched). has_open x.tree ≡ false) (sym same)
+        (s.fewer (omega (arith, less, t.within))) in
         let none = closed_places (goal_with y.best) [] y.tree
         (tree_steps problem stands range values [] start s.made (begun_with best) y steps begins) closed in
         let some : [] ≡ step.place ∷ step.rest = sym none ∙ step.first in cc

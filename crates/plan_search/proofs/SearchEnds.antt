@@ -63,7 +63,8 @@ module _ (problem : Parts) (stands : IsProblem problem) (values : List ℕ) (fir
       → length search.nodes.items ≡ made
       → ended.best ≡ last_found search.found first → ended.is_open ≡ search.open
       → plain_of ended.tree ≡ final_tree problem values search.best search.open y.tree
-      → ended.least ≡ least_of (map (lower8_of problem values problem.items) (open_places problem.items [] y.tree))
+      → ended.least ≡ least_of (map (lower8_of problem values problem.items)
+      (open_places problem.items [] y.tree))
       → IsEnded problem values first left ended
   search_ends ended within fewer nodes best opened tree lowest = record {
     end = y;
@@ -79,7 +80,8 @@ module _ (problem : Parts) (stands : IsProblem problem) (values : List ℕ) (fir
         (sym (ap load_found (best ∙ last_is) ∙ along.best)) along.tree;
     is_open = open_at problem search y at ∙ sym opened;
     tree = tree ∙ ap (λ b. final_tree problem values b search.open y.tree)
-        (sym (ap load_found best ∙ last_best)) ∙ ap (λ o. final_tree problem values (load_found ended.best) o y.tree)
+        (sym (ap load_found best ∙ last_best)) ∙ ap (λ o. final_tree problem values
+        (load_found ended.best) o y.tree)
         (sym opened);
     nodes = nodes_of-shown (items_of problem search) (start_of search) search.nodes.items
         (agenda (items_of problem search) search.base (labels_of search.partial) search.open) y.tree at.shows
@@ -106,7 +108,8 @@ final_same problem values others (Some load) false t same =
     ap (λ (lower8 : List ℕ → ℕ). trim problem.items (reaches lower8 (8 * load)) [] t) same
 
 -- a tree is trimmed over the items of the problem, at the empty grouping, with the values of lemmas
-pub trims_same : (problem : Parts) (values others : List ℕ) (items : List Item) (p : List ℕ) (load : ℕ) (t : Plain)
+pub trims_same : (problem : Parts) (values others : List ℕ) (items : List Item) (p : List ℕ) (load : ℕ)
+    (t : Plain)
     → items ≡ problem.items → p ≡ [] → others ≡ values
     → trim items (reaches (lower8_of problem others items) (8 * load)) p t
     ≡ trimmed problem None values (8 * load) t
@@ -122,7 +125,8 @@ nodes_at problem search x at =
 
 -- the steps of a judge over all items are those of what is found over them
 pub steps_from : (problem : Parts) (values : List ℕ) (items : List Item) (p : List ℕ) (judge : SearchJudge)
-    (best other : Option ℕ) (made : ℕ) (y : Searched) → IsJudge problem None values judge → items ≡ problem.items
+    (best other : Option ℕ) (made : ℕ) (y : Searched) → IsJudge problem None values judge → items
+    ≡ problem.items
     → p ≡ [] → other ≡ best
     → Steps (Finds problem judge.range judge.values.items) items p made (begun_with other) y
     → Steps (Finds problem None values) problem.items [] made (begun_with best) y
@@ -131,7 +135,8 @@ steps_from problem values items p judge best other made y is same empty load ste
     (steps_over problem values items p [] judge made (begun_with other) y is same empty steps)
 
 -- without an open leaf and with a best load it is the trimmed one
-pub final_is : (problem : Parts) (values : List ℕ) (items : List Item) (p : List ℕ) (best : Option ℕ) (load : ℕ)
+pub final_is : (problem : Parts) (values : List ℕ) (items : List Item) (p : List ℕ) (best : Option ℕ)
+    (load : ℕ)
     (is_open : Bool) (t : Plain) → items ≡ problem.items → p ≡ [] → best ≡ Some load → is_open ≡ false
     → trim items (reaches (lower8_of problem values items) (8 * load)) p t
     ≡ final_tree problem values best is_open t
@@ -151,7 +156,8 @@ least_none problem search x lower8 items start closed at =
     ap (λ ps. least_of (map lower8 ps)) (sym places)
 
 -- the least bound over the items of the problem, at the empty grouping
-pub least_same : (problem : Parts) (values : List ℕ) (items : List Item) (p : List ℕ) (t : Plain) (least : Option ℕ)
+pub least_same : (problem : Parts) (values : List ℕ) (items : List Item) (p : List ℕ) (t : Plain)
+    (least : Option ℕ)
     → items ≡ problem.items → p ≡ []
     → least ≡ least_of (map (lower8_of problem values items) (open_places items p t))
     → least ≡ least_of (map (lower8_of problem values problem.items) (open_places problem.items [] t))

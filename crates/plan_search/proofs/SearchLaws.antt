@@ -38,10 +38,12 @@ module _ (problem : Parts) (stands : IsProblem problem) (values : List ℕ) (fir
   one_step x y step along =
       let partial : IsPartial problem.items step.place =
       place_partial problem stands None values [] (partial-none problem.items) x y step along.tree in
-      let after = found_along x.best step.place step.finding x.found partial step.finds along.found along.best in
+      let after = found_along x.best step.place step.finding x.found partial step.finds along.found
+      along.best in
       record {
         tree = tree_step problem stands None values [] (partial-none problem.items) x y step along.tree;
-        found = subst (λ (z : Searched). IfSome (last_found z.found first) (FoundStands problem)) (sym step.is) after.0;
+        found = subst (λ (z : Searched). IfSome (last_found z.found first) (FoundStands problem))
+            (sym step.is) after.0;
         best = subst (λ (z : Searched). load_found (last_found z.found first) ≡ z.best) (sym step.is) after.1;
       }
 

@@ -60,7 +60,8 @@ mutual
       → nodes_in (put_first_in u ts) ≡ nodes_in ts + nodes_of u
   nodes-put_in u none e = absurd cc
   nodes-put_in u (more t ts) e =
-      nodes-by_test (has_open t) u t (put_first u t) ts (put_first_in u ts) (nodes-put u t) (nodes-put_in u ts) e
+      nodes-by_test (has_open t) u t (put_first u t) ts (put_first_in u ts) (nodes-put u t)
+      (nodes-put_in u ts) e
 
 nodes-lefts : (n : ℕ) → nodes_in (lefts n) ≡ 0
 nodes-lefts zero = refl
@@ -104,7 +105,8 @@ first-legal items t place rest s e =
     (subst (All (IsPartial items)) e (opens-legal items [] t (partial-none items) s))
 
 -- no place is open where no leaf is
-pub none-open : (g : Goal) (t : Plain) → TreeStands g [] t → has_open t ≡ false → open_places g.items [] t ≡ []
+pub none-open : (g : Goal) (t : Plain) → TreeStands g [] t → has_open t ≡ false → open_places g.items [] t
+    ≡ []
 none-open g t h closed = by (open_places g.items [] t) (sym (has_open-is g [] t h) ∙ closed)
   where
     by : (places : List (List ℕ)) → is_more places ≡ false → places ≡ []
@@ -140,7 +142,8 @@ few-options items p = by (nat_lt (length p) (length items))
         )
     by false = omega arith
 
--- over at most 128 items, each of at most 512 bits, a tree that stands has room in a text, where its fail leaves have
+-- over at most 128 items, each of at most 512 bits, a tree that stands has room in a text, where its fail
+-- leaves have
 module _ (g : Goal) (few : length g.items ≤ 128) (small : All (λ item. item.bits ≤ 512) g.items)
     (fails : (p : List ℕ) (named : List (ℕ × Evidence)) → IsPartial g.items p → g.AreFailing p named
     → (length named ≤ 128) × All PieceFits named) where
@@ -245,7 +248,8 @@ module _ (problem : Parts) (stands : IsProblem problem) (sender : ℕ) where
       → Sought (n + 1) y
   sought-step n x y step at =
       let goal = goal_of own own8 (FailsIn problem (Some sender)) true x.best in
-      let legal = first-legal own x.tree step.place step.rest (has_options goal [] x.tree at.tree) step.first in
+      let legal = first-legal own x.tree step.place step.rest
+      (has_options goal [] x.tree at.tree) step.first in
       let finds : FindsAt x.best step.place step.finding = (step.finds, legal) in
       let told : Step FindsAt own [] x y = record {
         place = step.place;
@@ -326,7 +330,8 @@ module _ (problem : Parts) (stands : IsProblem problem) (sender : ℕ) where
     -- it has found a grouping
     pub has-found : end.found ≡ None → ⊥
     has-found e =
-        let is : IsOfBest None end.best = subst (λ f. IsOfBest f end.best) e (sought share end search).found in
+        let is : IsOfBest None end.best = subst (λ f. IsOfBest f end.best) e
+        (sought share end search).found in
         no-tree [] end.tree (partial-none own) (closed-tree None is)
 
     pub ended : (found : Found) → end.found ≡ Some found

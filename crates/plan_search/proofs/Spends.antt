@@ -17,8 +17,10 @@ use Rattle.search_judge.specs.Judges.{IsJudge, JudgesOver}
 use Rattle.plan_search.specs.Searches.{IsSearch, begun_with, trimmed}
 
 -- the judge over a range judges places over its items
-pub judges-over : (problem : Parts) (range : Option ℕ) (values : List ℕ) (items : List Item) (judge : SearchJudge)
-    → IsJudge problem range values judge → items ≡ items_in problem.items range → JudgesOver problem items judge
+pub judges-over : (problem : Parts) (range : Option ℕ) (values : List ℕ) (items : List Item)
+    (judge : SearchJudge)
+    → IsJudge problem range values judge → items ≡ items_in problem.items range
+    → JudgesOver problem items judge
 judges-over problem range values items judge it are = record {
   judge_is = subst (λ r. IsJudge problem r judge.values.items judge) (sym it.range_is)
       (subst (λ v. IsJudge problem range v judge) (sym it.values_are) it);
@@ -56,10 +58,12 @@ pub reached : (problem : Parts) (sender share made : ℕ) (judge : SearchJudge) 
     → Reached problem sender share last
 reached problem sender share made judge first last is items start at within fewer gives =
     let told = gives (begun_with None) at in
-    let steps : Steps (Finds problem (Some sender) []) (sent_by problem.items sender) [] made (begun_with None) told.0 =
+    let steps : Steps (Finds problem (Some sender) []) (sent_by problem.items sender) [] made
+    (begun_with None) told.0 =
     subst (λ from. Steps (Finds problem (Some sender) []) (sent_by problem.items sender) from made
     (begun_with None) told.0) start
-    (subst (λ own. Steps (Finds problem (Some sender) []) own (start_of first) made (begun_with None) told.0) items
+    (subst (λ own. Steps (Finds problem (Some sender) []) own (start_of first) made (begun_with None) told.0)
+    items
     (subst (λ v. Steps (Finds problem (Some sender) v) (items_of problem first) (start_of first) made
     (begun_with None) told.0) is.values_are
     (subst (λ r. Steps (Finds problem r judge.values.items) (items_of problem first) (start_of first) made
@@ -88,11 +92,13 @@ pub trimmed-is : (problem : Parts) (sender value : ℕ) (taken : Search)
     (bound8 other8 : Parts → List Item → List ℕ → ℕ) (tree : Plain)
     → items_of problem taken ≡ sent_by problem.items sender → start_of taken ≡ [] → bound8 ≡ other8
     → other8 problem (sent_by problem.items sender) ≡ lower8_of problem [] (sent_by problem.items sender)
-    → trim (items_of problem taken) (reaches (bound8 problem (items_of problem taken)) value) (start_of taken) tree
+    → trim (items_of problem taken) (reaches (bound8 problem (items_of problem taken)) value)
+    (start_of taken) tree
     ≡ trimmed problem (Some sender) [] value tree
 trimmed-is problem sender value taken bound8 other8 tree items start bounds is =
     let own = sent_by problem.items sender in
-    ap (λ from. trim (items_of problem taken) (reaches (bound8 problem (items_of problem taken)) value) from tree)
+    ap (λ from. trim (items_of problem taken) (reaches (bound8 problem (items_of problem taken)) value) from
+    tree)
     start
     ∙ ap (λ (all : List Item). trim all (reaches (bound8 problem all) value) [] tree) items
     ∙ ap (λ (lower8 : List ℕ → ℕ). trim own (reaches lower8 value) [] tree)

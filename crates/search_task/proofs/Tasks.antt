@@ -82,7 +82,8 @@ stands_over problem values from best other t h =
     stands-lesser problem.items (lower8_of problem values problem.items) (FailsIn problem None) true best
     (lesser best other) from t (lesser_no_worse best other) h
 
--- the steps of a judge over all items are those of what is found over them, of a task that holds what they end
+-- the steps of a judge over all items are those of what is found over them, of a task that holds what they
+-- end
 -- with
 pub steps_kept : (problem : Parts) (values : List ℕ) (items : List Item) (p q : List ℕ) (judge : SearchJudge)
     (made : ℕ) (x y z : Searched) → IsJudge problem None values judge → items ≡ problem.items → p ≡ q
@@ -125,7 +126,8 @@ same_search tree best found kept x tree_is best_is found_is same =
     ∙ ap (λ f. record { tree = x.tree; best = x.best; found = f }) (same ∙ sym found_is)
 
 -- what a search is at is a task again
-pub is_task : (problem : Parts) (stands : IsProblem problem) (old new : Task) (search : Search) (best : Option ℕ)
+pub is_task : (problem : Parts) (stands : IsProblem problem) (old new : Task) (search : Search)
+    (best : Option ℕ)
     (made : ℕ) (y : Searched) → IsTask problem old → IsAt problem search y
     → Steps (Finds problem None old.lemmas.items) problem.items old.path.items made (taken_over old best) y
     → search_of new ≡ y → new.open ≡ search.open → new.path ≡ old.path → new.lemmas ≡ old.lemmas

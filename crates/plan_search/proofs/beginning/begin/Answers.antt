@@ -29,7 +29,8 @@ lemma_values-requires c =
 
 pub returns-clause-stand : goal.returns-clause-stand
 returns-clause-stand c =
-    lemmas-stand c.args.problem.now c.in_ok-taken.ensures.problem c.args.branches (turns_of c.in_ok-taken.taken)
+    lemmas-stand c.args.problem.now c.in_ok-taken.ensures.problem c.args.branches
+    (turns_of c.in_ok-taken.taken)
     c.in_ok-taken.ensures.turns
 
 pub returns-clause-trimmed : goal.returns-clause-trimmed
@@ -44,7 +45,8 @@ returns-clause-nodes c =
 
 pub returns-clause-counted : goal.returns-clause-counted
 returns-clause-counted c =
-    nodes-counted c.args.problem.now c.in_ok-taken.ensures.problem c.args.branches (turns_of c.in_ok-taken.taken)
+    nodes-counted c.args.problem.now c.in_ok-taken.ensures.problem c.args.branches
+    (turns_of c.in_ok-taken.taken)
     c.in_ok-taken.ensures.turns
 
 pub returns-clause-first_stands : goal.returns-clause-first_stands
@@ -56,8 +58,10 @@ pub returns-clause-fits : goal.returns-clause-fits
 returns-clause-fits c =
     let problem = c.args.problem.now in
     let turns = turns_of c.in_ok-taken.taken in
-    let low = senders-there problem c.in_ok-taken.ensures.problem c.args.branches turns c.in_ok-taken.ensures.turns in
-    let at = all-stand problem c.in_ok-taken.ensures.problem c.args.branches turns c.in_ok-taken.ensures.turns in
+    let low = senders-there problem c.in_ok-taken.ensures.problem c.args.branches turns
+    c.in_ok-taken.ensures.turns in
+    let at = all-stand problem c.in_ok-taken.ensures.problem c.args.branches turns
+    c.in_ok-taken.ensures.turns in
     λ k d lt. (
       omega (
         arith,

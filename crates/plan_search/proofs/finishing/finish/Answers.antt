@@ -35,7 +35,8 @@ final_nodes-requires-clause-low c =
 pub final_nodes-requires-clause-tree : goal.final_nodes-requires-clause-tree
 final_nodes-requires-clause-tree c = (
   plain_of c.args.tree,
-  sym (c.in_ok-flatten.ensures ∙ ap (λ nodes. nodes ++ flat (plain_of c.args.tree)) c.new-nodes.ensures.items),
+  sym (c.in_ok-flatten.ensures ∙ ap (λ nodes. nodes ++ flat (plain_of c.args.tree))
+      c.new-nodes.ensures.items),
   has_options (main_goal c.args.problem.now
       (values_of c.args.problem.now (map plain_lemma c.args.lemmas.items)) (load_found c.args.best) true) []
       (plain_of c.args.tree) c.requires.tree,
@@ -58,7 +59,8 @@ returns-clause-ends c =
     ap (λ best. flat (final_tree c.args.problem.now
     (values_of c.args.problem.now (map plain_lemma c.args.lemmas.items)) best c.any_left-is_open.result
     (plain_of c.args.tree))) (sym c.load_found.ensures)
-    ∙ ap (λ (ls : List Lemma). flat (final_tree c.args.problem.now (values_of c.args.problem.now (map plain_lemma ls))
+    ∙ ap (λ (ls : List Lemma). flat (final_tree c.args.problem.now
+    (values_of c.args.problem.now (map plain_lemma ls))
     c.load_found.result c.any_left-is_open.result (plain_of c.args.tree))) (sym c.deref-2.ensures.value)
     ∙ c.in_ok-kept.ensures (plain_of c.args.tree) nodes options in
     c.in_ok-planned.ensures (plain_of c.args.tree) opened
@@ -69,17 +71,20 @@ returns-clause-ends c =
 pub returns-clause-accepted : goal.returns-clause-accepted
 returns-clause-accepted c =
     ends_accepted c.args.problem.now c.problem_stands.ensures.problem c.problem_stands.ensures.sorted
-    (map plain_lemma c.args.lemmas.items) c.requires.lemmas (plain_of c.args.tree) c.args.best c.in_ok-planned.planned
+    (map plain_lemma c.args.lemmas.items) c.requires.lemmas
+    (plain_of c.args.tree) c.args.best c.in_ok-planned.planned
     c.requires.best c.requires.tree (returns-clause-ends c)
 
 pub returns-clause-trimmed : goal.returns-clause-trimmed
 returns-clause-trimmed c = λ all.
     ends_trimmed c.args.problem.now c.problem_stands.ensures.problem c.problem_stands.ensures.sorted
-    (map plain_lemma c.args.lemmas.items) c.requires.lemmas (plain_of c.args.tree) c.args.best c.in_ok-planned.planned
+    (map plain_lemma c.args.lemmas.items) c.requires.lemmas
+    (plain_of c.args.tree) c.args.best c.in_ok-planned.planned
     c.requires.best c.requires.tree all (returns-clause-ends c)
 
 pub returns-clause-fits : goal.returns-clause-fits
 returns-clause-fits c =
     ends_fits c.args.problem.now c.problem_stands.ensures.problem c.problem_stands.ensures.sorted
-    (map plain_lemma c.args.lemmas.items) c.requires.lemmas (plain_of c.args.tree) c.args.best c.in_ok-planned.planned
+    (map plain_lemma c.args.lemmas.items) c.requires.lemmas
+    (plain_of c.args.tree) c.args.best c.in_ok-planned.planned
     c.requires.best c.requires.tree (returns-clause-ends c)

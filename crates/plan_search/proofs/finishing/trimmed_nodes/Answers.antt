@@ -17,7 +17,8 @@ returns c = λ t is options.
     c.in_ok-partial.ensures.range in
     let empty : labels_of c.in_ok-partial.partial ≡ [] = c.in_ok-partial.ensures.none in
     ap flat (sym (trims_same c.args.problem.now c.args.values.now c.in_ok-judge.judge.values.items
-    (range_of c.args.problem.now c.in_ok-partial.partial) (labels_of c.in_ok-partial.partial) c.args.load t items empty
+    (range_of c.args.problem.now c.in_ok-partial.partial)
+    (labels_of c.in_ok-partial.partial) c.args.load t items empty
     c.in_ok-judge.ensures.is.values_are))
     ∙ c.in_ok-kept.ensures.trimmed t is
     (subst (λ (xs : List Item). HasOptions xs (labels_of c.in_ok-partial.partial) t) (sym items)

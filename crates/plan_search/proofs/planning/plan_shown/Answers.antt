@@ -22,40 +22,50 @@ verdict_with-requires c =
 
 pub returns-clause-exact : goal.returns-clause-exact
 returns-clause-exact c =
-    plan_exact c.args.problem.now c.problem_stands.ensures.problem c.problem_stands.ensures.sorted c.args.branches
-    c.in_ok-lemmas.field-0.left (map plain_lemma c.in_ok-lemmas.field-0.lemmas.items) c.in_ok-lemmas.field-0.first
+    plan_exact c.args.problem.now c.problem_stands.ensures.problem c.problem_stands.ensures.sorted
+    c.args.branches
+    c.in_ok-lemmas.field-0.left (map plain_lemma c.in_ok-lemmas.field-0.lemmas.items)
+    c.in_ok-lemmas.field-0.first
     c.in_ok-lemmas.ensures.begins c.in_ok-lemmas.ensures.stand c.as_slice.result.now
     (c.as_slice.ensures ∙ c.in_ok-lemmas.ensures.values) c.in_ok-best.field-0 c.in_ok-best.ensures
     c.in_ok-planned.planned c.in_ok-planned.ensures
 
 pub returns-clause-accepted : goal.returns-clause-accepted
 returns-clause-accepted c =
-    plan_accepted c.args.problem.now c.problem_stands.ensures.problem c.problem_stands.ensures.sorted c.args.branches
-    c.in_ok-lemmas.field-0.left (map plain_lemma c.in_ok-lemmas.field-0.lemmas.items) c.in_ok-lemmas.field-0.first
+    plan_accepted c.args.problem.now c.problem_stands.ensures.problem c.problem_stands.ensures.sorted
+    c.args.branches
+    c.in_ok-lemmas.field-0.left (map plain_lemma c.in_ok-lemmas.field-0.lemmas.items)
+    c.in_ok-lemmas.field-0.first
     c.in_ok-lemmas.ensures.begins c.in_ok-lemmas.ensures.stand c.as_slice.result.now
     (c.as_slice.ensures ∙ c.in_ok-lemmas.ensures.values) c.in_ok-best.field-0 c.in_ok-best.ensures
     c.in_ok-planned.planned c.in_ok-planned.ensures
 
 pub returns-clause-trimmed : goal.returns-clause-trimmed
 returns-clause-trimmed c =
-    plan_trimmed c.args.problem.now c.problem_stands.ensures.problem c.problem_stands.ensures.sorted c.args.branches
-    c.in_ok-lemmas.field-0.left (map plain_lemma c.in_ok-lemmas.field-0.lemmas.items) c.in_ok-lemmas.field-0.first
+    plan_trimmed c.args.problem.now c.problem_stands.ensures.problem c.problem_stands.ensures.sorted
+    c.args.branches
+    c.in_ok-lemmas.field-0.left (map plain_lemma c.in_ok-lemmas.field-0.lemmas.items)
+    c.in_ok-lemmas.field-0.first
     c.in_ok-lemmas.ensures.begins c.in_ok-lemmas.ensures.stand c.as_slice.result.now
     (c.as_slice.ensures ∙ c.in_ok-lemmas.ensures.values) c.in_ok-best.field-0 c.in_ok-best.ensures
     c.in_ok-planned.planned c.in_ok-planned.ensures c.in_ok-lemmas.ensures.trimmed
 
 pub returns-clause-within : goal.returns-clause-within
 returns-clause-within c =
-    plan_within c.args.problem.now c.problem_stands.ensures.problem c.problem_stands.ensures.sorted c.args.branches
-    c.in_ok-lemmas.field-0.left (map plain_lemma c.in_ok-lemmas.field-0.lemmas.items) c.in_ok-lemmas.field-0.first
+    plan_within c.args.problem.now c.problem_stands.ensures.problem c.problem_stands.ensures.sorted
+    c.args.branches
+    c.in_ok-lemmas.field-0.left (map plain_lemma c.in_ok-lemmas.field-0.lemmas.items)
+    c.in_ok-lemmas.field-0.first
     c.in_ok-lemmas.ensures.begins c.in_ok-lemmas.ensures.stand c.as_slice.result.now
     (c.as_slice.ensures ∙ c.in_ok-lemmas.ensures.values) c.in_ok-best.field-0 c.in_ok-best.ensures
     c.in_ok-planned.planned c.in_ok-planned.ensures (omega (arith, c.in_ok-lemmas.ensures.nodes))
 
 pub returns-clause-fits : goal.returns-clause-fits
 returns-clause-fits c =
-    plan_fits c.args.problem.now c.problem_stands.ensures.problem c.problem_stands.ensures.sorted c.args.branches
-    c.in_ok-lemmas.field-0.left (map plain_lemma c.in_ok-lemmas.field-0.lemmas.items) c.in_ok-lemmas.field-0.first
+    plan_fits c.args.problem.now c.problem_stands.ensures.problem c.problem_stands.ensures.sorted
+    c.args.branches
+    c.in_ok-lemmas.field-0.left (map plain_lemma c.in_ok-lemmas.field-0.lemmas.items)
+    c.in_ok-lemmas.field-0.first
     c.in_ok-lemmas.ensures.begins c.in_ok-lemmas.ensures.stand c.as_slice.result.now
     (c.as_slice.ensures ∙ c.in_ok-lemmas.ensures.values) c.in_ok-best.field-0 c.in_ok-best.ensures
     c.in_ok-planned.planned c.in_ok-planned.ensures
@@ -65,8 +75,10 @@ returns-clause-verdict c =
     let ended = c.in_ok-best.field-0 in
     c.verdict_with-verdict.ensures
     ∙ ap (λ best. verdict_with best ended.is_open ended.least) c.load_found.ensures
-    ∙ plan_verdict c.args.problem.now c.problem_stands.ensures.problem c.problem_stands.ensures.sorted c.args.branches
-    c.in_ok-lemmas.field-0.left (map plain_lemma c.in_ok-lemmas.field-0.lemmas.items) c.in_ok-lemmas.field-0.first
+    ∙ plan_verdict c.args.problem.now c.problem_stands.ensures.problem c.problem_stands.ensures.sorted
+    c.args.branches
+    c.in_ok-lemmas.field-0.left (map plain_lemma c.in_ok-lemmas.field-0.lemmas.items)
+    c.in_ok-lemmas.field-0.first
     c.in_ok-lemmas.ensures.begins c.in_ok-lemmas.ensures.stand c.as_slice.result.now
     (c.as_slice.ensures ∙ c.in_ok-lemmas.ensures.values) ended c.in_ok-best.ensures
     c.in_ok-planned.planned c.in_ok-planned.ensures

@@ -27,7 +27,8 @@ least_lines-requires-clause-passes c =
     let bit : c.from-bit.result ≡ c.args.problem.now.network.nominal_ticks =
     c.from-bit.ensures ∙ ap (λ (n : Network). n.nominal_ticks) c.network.ensures.network in
     let here : OrderPasses c.deref.result.now c.from-bit.result c.as_slice-order.result.now =
-    subst (λ (frames : List Timed). OrderPasses frames c.from-bit.result c.as_slice-order.result.now) (sym value)
+    subst (λ (frames : List Timed). OrderPasses frames c.from-bit.result c.as_slice-order.result.now)
+    (sym value)
     (subst (λ time. OrderPasses (frames_at c.args.problem.now c.args.found.now.labels) time
     c.as_slice-order.result.now) (sym bit)
     (subst (OrderPasses (frames_at c.args.problem.now c.args.found.now.labels)

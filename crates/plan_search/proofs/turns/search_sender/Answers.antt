@@ -23,7 +23,8 @@ returns-then-pending c =
     record {
       end = it.end;
       search = it.search;
-      gives = open-is c.args.problem.now c.advance.new.self it.end it.at ∙ sym c.pending.ensures ∙ c.if-pending.true;
+      gives = open-is c.args.problem.now c.advance.new.self it.end it.at ∙ sym c.pending.ensures
+          ∙ c.if-pending.true;
     }
 
 pub unreachable-requires : goal.unreachable-requires
@@ -37,7 +38,8 @@ unreachable-requires c =
     told.gives in
     let closed : has_open it.end.tree ≡ false =
     open-is c.args.problem.now c.advance.new.self it.end it.at ∙ sym c.pending.ensures ∙ c.if-pending.false in
-    absurd (has-found c.args.problem.now c.in_ok-partial.ensures.belongs.stands c.args.sender c.args.share it.end
+    absurd (has-found c.args.problem.now c.in_ok-partial.ensures.belongs.stands c.args.sender c.args.share
+    it.end
     it.search closed (it.at.found ∙ sym c.take_found.ensures.found ∙ c.in_default.is))
 
 pub overflow_mul-value : goal.overflow_mul-value
@@ -52,7 +54,8 @@ overflow_mul-value c =
     let closed : has_open it.end.tree ≡ false =
     open-is c.args.problem.now c.advance.new.self it.end it.at ∙ sym c.pending.ensures ∙ c.if-pending.false in
     let small : 8 * c.in-Some.found.load < 2 ^ 128 =
-    (ended c.args.problem.now c.in_ok-partial.ensures.belongs.stands c.args.sender c.args.share it.end it.search
+    (ended c.args.problem.now c.in_ok-partial.ensures.belongs.stands c.args.sender c.args.share it.end
+    it.search
     closed c.in-Some.found (it.at.found ∙ sym c.take_found.ensures.found ∙ c.in-Some.is)).small in
     omega arith
 
@@ -75,7 +78,8 @@ into_trimmed-requires-clause-tree c =
     (c.new-search.ensures.start ∙ c.in_ok-partial.ensures.none) c.new-search.ensures.at told.within told.fewer
     told.gives in (
       record { tree = it.end.tree; best = it.end.best; found = None },
-      taken-at c.args.problem.now c.advance.new.self c.take_found.new.self it.end c.take_found.ensures.rest it.at,
+      taken-at c.args.problem.now c.advance.new.self c.take_found.new.self it.end c.take_found.ensures.rest
+          it.at,
     )
 
 pub returns : goal.returns

@@ -13,10 +13,13 @@ returns-clause-steps c =
     let x = taken_over self c.args.best in
     let gives = c.in_ok-made.ensures.gives x (rw c.lesser.ensures at c.in_ok-search.ensures.at) in
     let is : IsJudge problem None self.lemmas.items c.in_ok-judge.judge =
-    subst (λ vs. IsJudge problem None vs c.in_ok-judge.judge) c.deref.ensures.value c.in_ok-judge.ensures.is in
-    steps_kept problem self.lemmas.items (items_of problem c.in_ok-search.search) (start_of c.in_ok-search.search)
+    subst (λ vs. IsJudge problem None vs c.in_ok-judge.judge) c.deref.ensures.value c.in_ok-judge.ensures.is
+    in
+    steps_kept problem self.lemmas.items (items_of problem c.in_ok-search.search)
+    (start_of c.in_ok-search.search)
     self.path.items c.in_ok-judge.judge c.in_ok-made.made x gives.0 (search_of c.keep.new.self) is
-    c.in_ok-search.ensures.items c.in_ok-search.ensures.start gives.1 (c.in_ok-keep.ensures.at gives.0 gives.2)
+    c.in_ok-search.ensures.items c.in_ok-search.ensures.start gives.1
+    (c.in_ok-keep.ensures.at gives.0 gives.2)
 
 pub returns-clause-fewer : goal.returns-clause-fewer
 returns-clause-fewer c = λ less.
@@ -32,11 +35,13 @@ returns-clause-task c =
     let x = taken_over self c.args.best in
     let gives = c.in_ok-made.ensures.gives x (rw c.lesser.ensures at c.in_ok-search.ensures.at) in
     let is : IsJudge problem None self.lemmas.items c.in_ok-judge.judge =
-    subst (λ vs. IsJudge problem None vs c.in_ok-judge.judge) c.deref.ensures.value c.in_ok-judge.ensures.is in
+    subst (λ vs. IsJudge problem None vs c.in_ok-judge.judge) c.deref.ensures.value c.in_ok-judge.ensures.is
+    in
     let told = c.in_ok-search.ensures in
     let kept = c.in_ok-keep.ensures in
     is_task problem c.problem_stands.ensures.problem self c.keep.new.self
     c.advance.new.self c.args.best c.in_ok-made.made gives.0 c.requires gives.2
-    (steps_over problem self.lemmas.items (items_of problem c.in_ok-search.search) (start_of c.in_ok-search.search)
+    (steps_over problem self.lemmas.items (items_of problem c.in_ok-search.search)
+    (start_of c.in_ok-search.search)
     self.path.items c.in_ok-judge.judge c.in_ok-made.made x gives.0 is told.items told.start gives.1)
     (kept.at gives.0 gives.2) kept.open (kept.path ∙ told.path) (kept.lemmas ∙ told.lemmas)
