@@ -19,12 +19,12 @@ use Rattle.bandwidth_bound.specs.Prices.{lower8_of}
 use Rattle.bandwidth_bound.specs.declared.verdict.Verdict.TheVariants as verdict
 use Rattle.bandwidth_bound.specs.Rule.{Accepts, MatrixOfKind, TimingOfKind, best_of, lower_of}
 use Rattle.bandwidth_bound.specs.Timing.{TimingStands}
-use Rattle.bandwidth_bound.specs.Trees.{Goal, TreeStands, open_places}
+use Rattle.bandwidth_bound.specs.Trees.{TreeStands, open_places}
 use Rattle.tree_search.specs.declared.finding.Found.{Found}
 use Rattle.tree_search.specs.Open.{has_open, least_of}
 use Rattle.tree_search.specs.Trim.{reaches}
 use Rattle.tree_search.proofs.Counts.{is_trimmed}
-use Rattle.tree_search.proofs.Firsts.{has_open-is, is_more}
+use Rattle.search_judge.proofs.Places.{closed_places, opened_places}
 use Rattle.tree_search.proofs.Standing.{stands-along, stands-closed, stands-trim}
 use Rattle.search_judge.specs.Findings.{FoundStands}
 use Rattle.plan_search.specs.declared.planned.Planned.{Planned}
@@ -35,25 +35,6 @@ use Rattle.plan_search.specs.Searches.{IsTrimmedIn, trimmed, LemmaIsTrimmed}
 use Rattle.plan_search.proofs.FewSenders.{senders_few}
 use Rattle.plan_search.proofs.Founds.{best, grouping, lines_have_room, placed, timing}
 use Rattle.plan_search.proofs.TreeFits.{standing_fits}
-
--- ---- open leaves
-
-none_open : (ps : List (List ℕ)) → is_more ps ≡ false → ps ≡ []
-none_open [] e = refl
-none_open (p ∷ ps) e = cc
-
-some_open : (ps : List (List ℕ)) → is_more ps ≡ true → 1 ≤ length ps
-some_open [] e = cc
-some_open (p ∷ ps) e = omega arith
-
-module _ (g : Goal) (p : List ℕ) (t : Plain) (h : TreeStands g p t) where
-  -- where no leaf is open there is no open place
-  pub closed_places : has_open t ≡ false → open_places g.items p t ≡ []
-  closed_places e = none_open (open_places g.items p t) (sym (has_open-is g p t h) ∙ e)
-
-  -- and where one is, there is one
-  pub opened_places : has_open t ≡ true → 1 ≤ length (open_places g.items p t)
-  opened_places e = some_open (open_places g.items p t) (sym (has_open-is g p t h) ∙ e)
 
 -- ---- trees
 

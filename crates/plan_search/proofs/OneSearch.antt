@@ -9,11 +9,10 @@ use Rattle.bandwidth_bound.specs.Goals.{eighths, range_goal}
 use Rattle.bandwidth_bound.specs.Trees.{Goal, TreeStands}
 use Rattle.search_judge.specs.Findings.{Finds}
 use Rattle.search_judge.specs.Laws.{OneIsFound}
-use Rattle.search_judge.proofs.Places.{place_partial, tree_steps}
+use Rattle.search_judge.proofs.Places.{closed_places, place_partial, tree_steps}
 use Rattle.tree_search.specs.Open.{has_open}
 use Rattle.tree_search.specs.Step.{Searched, Step, Steps, after}
 use Rattle.plan_search.specs.Searches.{IsSearch, begun_with}
-use Rattle.plan_search.proofs.Ended.{closed_places}
 
 module _ (problem : Parts) (stands : IsProblem problem) (one : OneIsFound) (range : Option ℕ)
     (values : List ℕ) where

@@ -9,7 +9,7 @@ use Rattle.cert_text.specs.Trees.{Plain}
 use Rattle.grouping_tree.specs.Grouped.{items_in, labels_of}
 use Rattle.grouping_tree.proofs.Fronts.{legal-partial}
 use Rattle.bandwidth_bound.specs.Goals.{main_goal}
-use Rattle.bandwidth_bound.specs.Loads.{LoadsFit}
+use Rattle.bandwidth_bound.proofs.Loads.{loads_fit}
 use Rattle.bandwidth_bound.specs.Prices.{lower8_of}
 use Rattle.bandwidth_bound.specs.Trees.{TreeStands, open_places}
 use Rattle.search_judge.specs.Findings.{Finds, FoundStands}
@@ -30,11 +30,11 @@ use Rattle.plan_search.specs.Searches.{begun_with, trimmed}
 use Rattle.plan_search.proofs.SearchLaws.{IsAlong, begins_along, steps_along}
 
 -- the load of what was found fits in eighths
-pub found_fits : (problem : Parts) → IsProblem problem → LoadsFit → (found : Option Found)
+pub found_fits : (problem : Parts) → IsProblem problem → (found : Option Found)
     → IfSome found (FoundStands problem) → IfSome (load_found found) (λ load. 8 * load < 2 ^ 128)
-found_fits problem stands fit None is = tt
-found_fits problem stands fit (Some found) is =
-    let low = fit problem stands problem.items (All-contains_itself problem.items) found.labels
+found_fits problem stands None is = tt
+found_fits problem stands (Some found) is =
+    let low = loads_fit problem stands problem.items (All-contains_itself problem.items) found.labels
     (legal-partial problem.items found.labels is.legal)
     (omega (arith, is.legal.grouping.each, (tests problem stands).few_items)) in
     rw is.load_is low
@@ -89,15 +89,6 @@ module _ (problem : Parts) (stands : IsProblem problem) (values : List ℕ) (fir
     least = lowest;
   }
 
--- a judge over all items judges places over them
-pub judges_over : (problem : Parts) (values : List ℕ) (items : List Item) (judge : SearchJudge)
-    → IsJudge problem None values judge → items ≡ problem.items → JudgesOver problem items judge
-judges_over problem values items judge is same = record {
-  judge_is = subst (λ r. IsJudge problem r judge.values.items judge) (sym is.range_is)
-      (subst (λ vs. IsJudge problem None vs judge) (sym is.values_are) is);
-  items_are = same ∙ ap (items_in problem.items) (sym is.range_is);
-}
-
 -- the final tree is one where the bound is
 pub final_same : (problem : Parts) (values others : List ℕ) (best : Option ℕ) (is_open : Bool) (t : Plain)
     → lower8_of problem values problem.items ≡ lower8_of problem others problem.items
@@ -132,7 +123,7 @@ pub steps_from : (problem : Parts) (values : List ℕ) (items : List Item) (p : 
     → Steps (Finds problem None values) problem.items [] made (begun_with best) y
 steps_from problem values items p judge best other made y is same empty load steps =
     subst (λ b. Steps (Finds problem None values) problem.items [] made (begun_with b) y) load
-    (steps_over problem values items p [] judge made (begun_with other) y is same empty steps)
+    (steps_over problem None values items p [] judge made (begun_with other) y is same empty steps)
 
 -- without an open leaf and with a best load it is the trimmed one
 pub final_is : (problem : Parts) (values : List ℕ) (items : List Item) (p : List ℕ) (best : Option ℕ)

@@ -135,7 +135,7 @@ module _ (g : Goal) (few : length g.items ≤ 128) (small : All (λ item. item.b
 
 module _ (problem : Parts) (stands : IsProblem problem) where
   -- the items of a range are few, and none is large
-  few_in : (range : Option ℕ) → length (items_in problem.items range) ≤ 128
+  pub few_in : (range : Option ℕ) → length (items_in problem.items range) ≤ 128
   few_in None = (tests problem stands).few_items
   few_in (Some sender) = omega (
     arith,
@@ -144,7 +144,7 @@ module _ (problem : Parts) (stands : IsProblem problem) where
     count_by-le-length (λ item. nat_eq item.sender sender) problem.items,
   )
 
-  small_in : (range : Option ℕ) → All (λ item. item.bits ≤ 512) (items_in problem.items range)
+  pub small_in : (range : Option ℕ) → All (λ item. item.bits ≤ 512) (items_in problem.items range)
   small_in None = small_items problem stands
   small_in (Some sender) = All-filter (λ item. nat_eq item.sender sender)
       (λ (item : Item). item.bits ≤ 512) problem.items (small_items problem stands)

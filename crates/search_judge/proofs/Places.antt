@@ -1,5 +1,5 @@
 -- The places of a search: partial groupings, at which its tree stands after each step.
-use Rattle.std.proofs.Common.{◌≡◌, ℕ, zero, suc, List, [], ◌∷◌, ◌++◌, All, Bool, true, false, Option, None, refl, sym, ap, ◌∙◌, subst}
+use Rattle.std.proofs.Common.{◌≡◌, ◌≤◌, ℕ, zero, suc, List, [], ◌∷◌, ◌++◌, length, All, arith, Bool, true, false, Option, None, refl, sym, ap, ◌∙◌, subst}
 use Rattle.std.proofs.lemmas.List.Elements.{All-append, All-cons, All-head, All-nil, All-tail}
 use Rattle.pack_model.specs.declared.item.Item.{Item}
 use Rattle.pack_model.specs.Problem.{Parts, IsProblem}
@@ -18,7 +18,7 @@ use Rattle.tree_search.proofs.Firsts.{has_open-is, is_more}
 use Rattle.tree_search.proofs.Standing.{step-stands}
 use Rattle.search_judge.specs.declared.judge.SearchJudge.{SearchJudge}
 use Rattle.search_judge.specs.Findings.{Finds}
-use Rattle.search_judge.specs.Judges.{IsJudge}
+use Rattle.search_judge.specs.Judges.{IsJudge, JudgesOver}
 use Rattle.search_judge.proofs.Shows.{shows}
 
 -- the open places of a tree that stands at a partial grouping are partial groupings
@@ -81,6 +81,23 @@ module _ (problem : Parts) (stands : IsProblem problem) (range : Option ℕ) (va
   tree_steps zero x y steps h = subst TreeOf (sym steps) h
   tree_steps (suc n) x y steps h = tree_step steps.0 y steps.2 (tree_steps n x steps.0 steps.1 h)
 
+none_open : (ps : List (List ℕ)) → is_more ps ≡ false → ps ≡ []
+none_open [] e = refl
+none_open (p ∷ ps) e = cc
+
+some_open : (ps : List (List ℕ)) → is_more ps ≡ true → 1 ≤ length ps
+some_open [] e = cc
+some_open (p ∷ ps) e = omega arith
+
+module _ (g : Goal) (p : List ℕ) (t : Plain) (h : TreeStands g p t) where
+  -- where no leaf is open there is no open place
+  pub closed_places : has_open t ≡ false → open_places g.items p t ≡ []
+  closed_places e = none_open (open_places g.items p t) (sym (has_open-is g p t h) ∙ e)
+
+  -- and where one is, there is one
+  pub opened_places : has_open t ≡ true → 1 ≤ length (open_places g.items p t)
+  opened_places e = some_open (open_places g.items p t) (sym (has_open-is g p t h) ∙ e)
+
 -- some place is open where a search is not done
 agenda_more : (items : List Item) (base : ℕ) (labels : List ℕ) (is_open : Bool)
     → is_more (agenda items base labels is_open) ≡ is_open
@@ -102,13 +119,25 @@ taken_at problem old new x is at =
     subst (λ (s : Search). IsAt problem s (record x { found = None })) (sym is)
     (record { shows = at.shows; best = at.best; found = refl })
 
--- the steps of a judge over all items are those of what is found over them
-pub steps_over : (problem : Parts) (values : List ℕ) (items : List Item) (p q : List ℕ) (judge : SearchJudge)
-    (made : ℕ) (x y : Searched) → IsJudge problem None values judge → items ≡ problem.items → p ≡ q
+-- a judge over a range judges places over its items
+pub judges_over : (problem : Parts) (range : Option ℕ) (values : List ℕ) (items : List Item)
+    (judge : SearchJudge) → IsJudge problem range values judge → items ≡ items_in problem.items range
+    → JudgesOver problem items judge
+judges_over problem range values items judge is are = record {
+  judge_is = subst (λ r. IsJudge problem r judge.values.items judge) (sym is.range_is)
+      (subst (λ vs. IsJudge problem range vs judge) (sym is.values_are) is);
+  items_are = are ∙ ap (items_in problem.items) (sym is.range_is);
+}
+
+-- its steps are those of what is found over them
+pub steps_over : (problem : Parts) (range : Option ℕ) (values : List ℕ) (items : List Item) (p q : List ℕ)
+    (judge : SearchJudge) (made : ℕ) (x y : Searched) → IsJudge problem range values judge
+    → items ≡ items_in problem.items range → p ≡ q
     → Steps (Finds problem judge.range judge.values.items) items p made x y
-    → Steps (Finds problem None values) problem.items q made x y
-steps_over problem values items p q judge made x y is same there steps =
-    subst (λ r. Steps (Finds problem None values) problem.items r made x y) there
-    (subst (λ (xs : List Item). Steps (Finds problem None values) xs p made x y) same
-    (subst (λ vs. Steps (Finds problem None vs) items p made x y) is.values_are
+    → Steps (Finds problem range values) (items_in problem.items range) q made x y
+steps_over problem range values items p q judge made x y is are there steps =
+    let own : List Item = items_in problem.items range in
+    subst (λ r. Steps (Finds problem range values) own r made x y) there
+    (subst (λ (xs : List Item). Steps (Finds problem range values) xs p made x y) are
+    (subst (λ vs. Steps (Finds problem range vs) items p made x y) is.values_are
     (subst (λ r. Steps (Finds problem r judge.values.items) items p made x y) is.range_is steps)))

@@ -91,7 +91,7 @@ pub steps_kept : (problem : Parts) (values : List ℕ) (items : List Item) (p q 
     → Steps (Finds problem None values) problem.items q made x z
 steps_kept problem values items p q judge made x y z is same there steps kept =
     subst (λ (e : Searched). Steps (Finds problem None values) problem.items q made x e) (sym kept)
-    (steps_over problem values items p q judge made x y is same there steps)
+    (steps_over problem None values items p q judge made x y is same there steps)
 
 -- no leaf of the task is open that holds what a search that is done is at
 pub closed_at : (problem : Parts) (search : Search) (x : Searched) (new : Task) → IsAt problem search x

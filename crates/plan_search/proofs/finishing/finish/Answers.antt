@@ -4,8 +4,6 @@ use Rattle.cert_text.specs.declared.parts.Lemma.{Lemma}
 use Rattle.cert_text.specs.PlainTree.{plain_lemma, plain_of}
 use Rattle.bandwidth_bound.specs.Goals.{main_goal}
 use Rattle.bandwidth_bound.specs.Lemmas.{values_of}
-use Rattle.bandwidth_bound.specs.Loads.{LoadsFit}
-use Rattle.bandwidth_bound.proofs.Loads.{loads_fit}
 use Rattle.tree_search.specs.Flat.{flat}
 use Rattle.tree_search.specs.Open.{HasOptions, has_open}
 use Rattle.tree_search.proofs.Standing.{has_options}
@@ -17,10 +15,6 @@ use Rattle.plan_search.proofs.OpenFlat.{open-flat}
 use Rattle.plan_search.proofs.SearchEnds.{found_fits}
 use Rattle.plan_search.proofs.finishing.finish.Goals as goal
 
--- a load in eighths fits
-the_fit : LoadsFit
-the_fit problem stands items of p partial few = loads_fit problem stands items of p partial few
-
 pub final_nodes-requires-clause-lemmas : goal.final_nodes-requires-clause-lemmas
 final_nodes-requires-clause-lemmas c =
     let problem = c.args.problem.now in
@@ -30,7 +24,7 @@ final_nodes-requires-clause-lemmas c =
 pub final_nodes-requires-clause-low : goal.final_nodes-requires-clause-low
 final_nodes-requires-clause-low c =
     subst (λ best. IfSome best (λ load. 8 * load < 2 ^ 128)) (sym c.load_found.ensures)
-    (found_fits c.args.problem.now c.problem_stands.ensures.problem the_fit c.args.best c.requires.best)
+    (found_fits c.args.problem.now c.problem_stands.ensures.problem c.args.best c.requires.best)
 
 pub final_nodes-requires-clause-tree : goal.final_nodes-requires-clause-tree
 final_nodes-requires-clause-tree c = (

@@ -1,7 +1,5 @@
 use Rattle.std.proofs.Common.{map, ◌*◌, ◌^◌, ◌<◌, IfSome, sym, ap, ◌∙◌, subst, arith}
 use Rattle.cert_text.specs.PlainTree.{plain_lemma}
-use Rattle.bandwidth_bound.specs.Loads.{LoadsFit}
-use Rattle.bandwidth_bound.proofs.Loads.{loads_fit}
 use Rattle.plan_search.specs.Ending.{verdict_with}
 use Rattle.plan_search.proofs.Plans.{plan_accepted, plan_exact, plan_fits, plan_trimmed, plan_verdict, plan_within}
 use Rattle.plan_search.proofs.SearchEnds.{found_fits}
@@ -10,14 +8,10 @@ use Rattle.plan_search.proofs.planning.plan_shown.Goals as goal
 pub search_all-requires : goal.search_all-requires
 search_all-requires c = c.in_ok-lemmas.ensures.first_stands
 
--- a load in eighths fits
-the_fit : LoadsFit
-the_fit problem stands items of p partial few = loads_fit problem stands items of p partial few
-
 pub verdict_with-requires : goal.verdict_with-requires
 verdict_with-requires c =
     subst (λ best. IfSome best (λ load. 8 * load < 2 ^ 128)) (sym c.load_found.ensures)
-    (found_fits c.args.problem.now c.problem_stands.ensures.problem the_fit c.in_ok-best.field-0.best
+    (found_fits c.args.problem.now c.problem_stands.ensures.problem c.in_ok-best.field-0.best
     c.in_ok-best.ensures.found)
 
 pub returns-clause-exact : goal.returns-clause-exact

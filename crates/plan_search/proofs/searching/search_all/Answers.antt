@@ -2,12 +2,10 @@ use Rattle.std.proofs.Common.{◌≡◌, ℕ, ◌*◌, ◌<◌, ◌^◌, List, [
 use Rattle.pack_model.specs.declared.item.Item.{Item}
 use Rattle.pack_model.specs.Problem.{Parts}
 use Rattle.cert_text.specs.Trees.{left}
-use Rattle.bandwidth_bound.specs.Loads.{LoadsFit}
 use Rattle.bandwidth_bound.specs.Prices.{lower8_of}
 use Rattle.bandwidth_bound.specs.Trees.{open_places}
-use Rattle.bandwidth_bound.proofs.Loads.{loads_fit}
 use Rattle.search_judge.specs.Findings.{Finds}
-use Rattle.search_judge.proofs.Places.{taken_at}
+use Rattle.search_judge.proofs.Places.{judges_over, taken_at}
 use Rattle.tree_search.specs.declared.search.Search.{Search}
 use Rattle.tree_search.specs.Open.{least_of}
 use Rattle.tree_search.specs.Shown.{items_of, start_of}
@@ -15,18 +13,18 @@ use Rattle.tree_search.specs.Step.{Steps}
 use Rattle.plan_search.specs.Ending.{final_tree}
 use Rattle.plan_search.specs.Plan.{last_found, load_found}
 use Rattle.plan_search.specs.Searches.{begun_with}
-use Rattle.plan_search.proofs.SearchEnds.{final_same, found_fits, judges_over, last_best, last_stands, nodes_at, search_ends, steps_from}
+use Rattle.plan_search.proofs.SearchEnds.{final_same, found_fits, last_best, last_stands, nodes_at, search_ends, steps_from}
 use Rattle.plan_search.proofs.searching.search_all.Goals as goal
 
 pub advance-requires-clause-suits : goal.advance-requires-clause-suits
 advance-requires-clause-suits c =
-    judges_over c.args.problem.now c.args.values.now (items_of c.args.problem.now c.new-search.result)
+    judges_over c.args.problem.now None c.args.values.now (items_of c.args.problem.now c.new-search.result)
     c.in_ok-judge.judge c.in_ok-judge.ensures.is (c.new-search.ensures.items ∙ c.in_ok-partial.ensures.range)
 
 pub final_tree-requires-clause-suits : goal.final_tree-requires-clause-suits
 final_tree-requires-clause-suits c =
     c.in_ok-advance.ensures.suits c.args.problem.now c.args.problem.now.items
-    (judges_over c.args.problem.now c.args.values.now c.args.problem.now.items c.in_ok-judge.judge
+    (judges_over c.args.problem.now None c.args.values.now c.args.problem.now.items c.in_ok-judge.judge
     c.in_ok-judge.ensures.is refl)
 
 pub final_tree-requires-clause-tree : goal.final_tree-requires-clause-tree
@@ -42,10 +40,6 @@ final_tree-requires-clause-tree c =
       taken_at c.args.problem.now c.advance.new.self c.take_found.new.self step.0 c.take_found.ensures.rest
           step.2,
     )
-
--- a load in eighths fits
-the_fit : LoadsFit
-the_fit problem stands items of p partial few = loads_fit problem stands items of p partial few
 
 pub final_tree-requires-clause-low : goal.final_tree-requires-clause-low
 final_tree-requires-clause-low c =
@@ -70,7 +64,7 @@ final_tree-requires-clause-low c =
     steps step.2
     ∙ ap (λ (s : Search). s.best) (sym c.take_found.ensures.rest) in
     subst (λ b. IfSome b (λ load. 8 * load < 2 ^ 128)) best
-    (found_fits c.args.problem.now c.problem_stands.ensures.problem the_fit
+    (found_fits c.args.problem.now c.problem_stands.ensures.problem
     (last_found c.advance.new.self.found c.args.first)
     (last_stands c.args.problem.now c.problem_stands.ensures.problem
     c.args.values.now c.args.first c.requires c.args.left c.in_ok-advance.field-0 c.advance.new.self step.0

@@ -41,7 +41,7 @@ returns-clause-task c =
     let kept = c.in_ok-keep.ensures in
     is_task problem c.problem_stands.ensures.problem self c.keep.new.self
     c.advance.new.self c.args.best c.in_ok-made.made gives.0 c.requires gives.2
-    (steps_over problem self.lemmas.items (items_of problem c.in_ok-search.search)
+    (steps_over problem None self.lemmas.items (items_of problem c.in_ok-search.search)
     (start_of c.in_ok-search.search)
     self.path.items c.in_ok-judge.judge c.in_ok-made.made x gives.0 is told.items told.start gives.1)
     (kept.at gives.0 gives.2) kept.open (kept.path ∙ told.path) (kept.lemmas ∙ told.lemmas)
