@@ -15,6 +15,7 @@ use Rattle.grouping_tree.proofs.Classes.{get_or-front}
 use Rattle.grouping_tree.proofs.Fronts.{full-legal}
 use Rattle.grouping_tree.proofs.Puts.{class-unused}
 use Rattle.grouping_tree.proofs.Used.{partial-none}
+use Rattle.bandwidth_bound.proofs.PriceSplits.{class-both, classes-append}
 use Rattle.plan_search.specs.Begin.{put_together}
 
 -- ---- labels that follow others
@@ -22,11 +23,6 @@ use Rattle.plan_search.specs.Begin.{put_together}
 -- labels that follow those of so many classes
 abbrev pub after : ℕ → List ℕ → List ℕ
 after c labels = map (λ label. c + label) labels
-
--- the number of classes of two lists of labels is the greater
-classes-append : (p r : List ℕ) → classes_of (p ++ r) ≡ max (classes_of p) (classes_of r)
-classes-append [] r = omega arith
-classes-append (l ∷ p) r = omega (arith, classes-append p r)
 
 -- the classes of labels that follow come after those before
 classes-after : (c : ℕ) (r : List ℕ) → max c (classes_of (after c r)) ≡ c + classes_of r
@@ -58,22 +54,6 @@ class-before {X} c k (l ∷ q) (y ∷ ys) lt =
     ∙ ap (λ b. cond b (y ∷ class_of k (after c q) ys) (class_of k (after c q) ys))
     (ne_eqb (c + l) k (λ e. omega arith))
     ∙ class-before c k q ys lt
-
--- the class of a label in two lists is that of the one and then that of the other
-class-both : {X : Type 0} (k : ℕ) (p r : List ℕ) (xs ys : List X) → length p ≡ length xs
-    → class_of k (p ++ r) (xs ++ ys) ≡ class_of k p xs ++ class_of k r ys
-class-both k [] r [] ys e = refl
-class-both k [] r (x ∷ xs) ys e = absurd (omega arith)
-class-both k (l ∷ p) r [] ys e = absurd (omega arith)
-class-both {X} k (l ∷ p) r (x ∷ xs) ys e = by (nat_eq l k) (class-both k p r xs ys (omega arith))
-  where
-    by : (b : Bool) → class_of k (p ++ r) (xs ++ ys) ≡ class_of k p xs ++ class_of k r ys
-        → map (λ (e : ℕ × X). e.1) (cond b ((l, x) ∷ filter (λ e. nat_eq e.0 k) (zip (p ++ r) (xs ++ ys)))
-        (filter (λ e. nat_eq e.0 k) (zip (p ++ r) (xs ++ ys))))
-        ≡ map (λ (e : ℕ × X). e.1) (cond b ((l, x) ∷ filter (λ e. nat_eq e.0 k) (zip p xs))
-        (filter (λ e. nat_eq e.0 k) (zip p xs))) ++ class_of k r ys
-    by true ih = ap (λ zs. x ∷ zs) ih
-    by false ih = ih
 
 take-both : (p : List ℕ) (k : ℕ) (r : List ℕ) → take (length p + k) (p ++ r) ≡ p ++ take k r
 take-both [] k r = let e : 0 + k ≡ k = omega arith in ap (λ n. take n r) e

@@ -1,5 +1,6 @@
 -- The plan of a final tree.
 use Rattle.std.specs.Prelude.{ℕ, ◌≡◌, ◌*◌, Bool, true, false, List, [], map, min, Option, None, Some, IfSome}
+use Rattle.std.specs.Option.{unwrap_or}
 use Rattle.pack_model.specs.Problem.{Parts}
 use Rattle.matrix_rows.specs.declared.matrix.MatrixRow.{MatrixRow}
 use Rattle.cert_text.specs.declared.parts.FrameLine.{FrameLine}
@@ -64,8 +65,7 @@ lower_with (Some load) least = min least (8 * load)
 
 -- the verdict of a plan, from the best load, whether a leaf is open, and the least bound at the open leaves
 abbrev pub verdict_with : Option ℕ → Bool → Option ℕ → Verdict
-verdict_with best true None = verdict.Between best (lower_with best 0)
-verdict_with best true (Some least) = verdict.Between best (lower_with best least)
+verdict_with best true least = verdict.Between best (lower_with best (unwrap_or least 0))
 verdict_with None false least = verdict.NoSolution
 verdict_with (Some load) false least = verdict.Best load
 
