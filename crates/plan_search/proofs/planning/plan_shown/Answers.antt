@@ -8,8 +8,8 @@ use Rattle.plan_search.proofs.planning.plan_shown.Goals as goal
 pub search_all-requires : goal.search_all-requires
 search_all-requires c = c.in_ok-lemmas.ensures.first_stands
 
-pub verdict_with-requires : goal.verdict_with-requires
-verdict_with-requires c =
+pub verdict_with-verdict-requires : goal.verdict_with-verdict-requires
+verdict_with-verdict-requires c =
     subst (λ best. IfSome best (λ load. 8 * load < 2 ^ 128)) (sym c.load_found.ensures)
     (found_fits c.args.problem.now c.problem_stands.ensures.problem c.in_ok-best.field-0.best
     c.in_ok-best.ensures.found)
