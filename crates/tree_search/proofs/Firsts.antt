@@ -208,7 +208,7 @@ instead-closed v (Bound ∷ nodes) ys h = ap (λ xs. Bound ∷ xs) (instead-clos
 instead-closed v (Left ∷ nodes) ys h = absurd h
 instead-closed v (Fail named ∷ nodes) ys h = ap (λ xs. Fail named ∷ xs) (instead-closed v nodes ys h)
 
-closed-append : (nodes others : List Node) → IsClosed nodes → IsClosed others → IsClosed (nodes ++ others)
+pub closed-append : (nodes others : List Node) → IsClosed nodes → IsClosed others → IsClosed (nodes ++ others)
 closed-append [] others h k = k
 closed-append (Inner n ∷ nodes) others h k = closed-append nodes others h k
 closed-append (Bound ∷ nodes) others h k = closed-append nodes others h k

@@ -2,7 +2,9 @@ pub mod Builds
 pub mod Counts
 pub mod Firsts
 pub mod Flattens
+pub mod Leasts
 pub mod Moves
 pub mod Standing
 pub mod Steps
 pub mod Trims
+pub mod Walks

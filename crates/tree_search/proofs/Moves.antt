@@ -1,11 +1,12 @@
 -- A walk goes on to the next place.
-use Rattle.std.proofs.Common.{◌≡◌, ℕ, ◌<◌, ◌≤◌, List, [], ◌∷◌, ◌++◌, length, take, replicate, Bool, true, false, Option, None, refl, sym, ap, ◌∙◌, append_assoc, arith}
+use Rattle.std.proofs.Common.{◌≡◌, ℕ, ◌<◌, ◌≤◌, List, [], ◌∷◌, ◌++◌, length, take, replicate, Bool, true, false, Option, refl, sym, ap, ◌∙◌, append_assoc, arith}
 use Rattle.std.proofs.lemmas.List.{drop_all, length-take-le, take-take, take_all}
 use Rattle.pack_model.specs.declared.item.Item.{Item}
 use Rattle.pack_model.specs.Problem.{Parts}
 use Rattle.cert_text.specs.Trees.{left}
 use Rattle.grouping_tree.specs.Grouped.{labels_of}
 use Rattle.grouping_tree.specs.Walk.{places_below, places_beside, places_left}
+use Rattle.tree_search.specs.declared.finding.Found.{Found}
 use Rattle.tree_search.specs.declared.node.Node.{Node}
 use Rattle.tree_search.specs.declared.node.Node.TheVariants.{Left}
 use Rattle.tree_search.specs.declared.search.Search.{Search}
@@ -21,6 +22,12 @@ agenda-start items labels =
 -- all labels are the front of a walk that begins at them
 pub start-all : (labels : List ℕ) → take (length labels) labels ≡ labels
 start-all labels = take_all (length labels) labels (omega arith)
+
+-- the same of a search that begins there
+pub agenda-first : (items : List Item) (base : ℕ) (labels : List ℕ) (is_open : Bool) → is_open ≡ true
+    → base ≡ length labels → agenda items base labels is_open ≡ take base labels ∷ []
+agenda-first items base labels is_open o b =
+    rw (o, b) (agenda-start items labels ∙ ap (λ p. p ∷ []) (sym (start-all labels)))
 
 -- a place to which the walk leaves has the front too
 pub left-below : {X Y : Type 0} (base : ℕ) (old new : List ℕ) (b : Bool) → base ≤ length old
@@ -59,11 +66,11 @@ shows-start items labels nodes base is_open b o n =
     rw (b, o, n, agenda-start items labels, start-all labels)
     (record { closed = tt; flat_is = refl; open_are = refl; options = refl })
 
-pub at-start : (problem : Parts) (search : Search) (best : Option ℕ)
+pub at-start : (problem : Parts) (search : Search) (best : Option ℕ) (found : Option Found)
     → search.base ≡ length (labels_of search.partial) → search.open ≡ true
-    → search.nodes.items ≡ [] → search.best ≡ best → search.found ≡ None
-    → IsAt problem search (record { tree = left; best = best; found = None })
-at-start problem search best b o n is nothing = record {
+    → search.nodes.items ≡ [] → search.best ≡ best → search.found ≡ found
+    → IsAt problem search (record { tree = left; best = best; found = found })
+at-start problem search best found b o n is nothing = record {
   shows =
       shows-start (items_of problem search)
       (labels_of search.partial) search.nodes.items search.base search.open b o n;

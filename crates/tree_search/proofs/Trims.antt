@@ -14,7 +14,8 @@ use Rattle.tree_search.specs.Trim.{AllHaveOptions, Trims, trim, trim_each, trims
 use Rattle.tree_search.proofs.Builds.{length-list, list_of}
 use Rattle.tree_search.proofs.Flattens.{flats-append}
 
-flat_each-list : (ts : Plains) → flat_each ts ≡ flats (list_of ts)
+-- the nodes of trees are those of their list
+pub flat_each-list : (ts : Plains) → flat_each ts ≡ flats (list_of ts)
 flat_each-list none = refl
 flat_each-list (more t ts) = ap (λ xs. flat t ++ xs) (flat_each-list ts)
 
@@ -52,7 +53,8 @@ both_nil [] ys e = e
 both_nil (x ∷ xs) ys e = cc
 
 module _ (items : List Item) where
-  options-children : (p ls : List ℕ) (ts : Plains) (ps : List (List ℕ)) (us : List Plain)
+  -- subtrees, one for each option, before other trees
+  pub options-children : (p ls : List ℕ) (ts : Plains) (ps : List (List ℕ)) (us : List Plain)
       → EachStands (any_goal items) p ls ts → AllHaveOptions items ps us
       → AllHaveOptions items (with_each p ls ++ ps) (list_of ts ++ us)
   options-children p [] none ps us h m = m

@@ -6,3 +6,4 @@ pub mod Shown
 pub mod Sound
 pub mod Step
 pub mod Trim
+pub mod Walks

@@ -1,6 +1,7 @@
 -- Open leaves of trees, and trees that have a subtree for each option.
-use Rattle.std.specs.Prelude.{ℕ, zero, suc, ◌+◌, Bool, true, false, ◌||◌, ⊤, List, Some, cond}
+use Rattle.std.specs.Prelude.{ℕ, zero, suc, ◌+◌, Bool, true, false, ◌||◌, ⊤, List, [], ◌∷◌, Option, None, Some, cond}
 use Rattle.pack_model.specs.declared.item.Item.{Item}
+use Rattle.class_frame.specs.Frame.{least}
 use Rattle.cert_text.specs.Trees.{Plain, Plains, bound, fail, inner, left, more, none}
 use Rattle.bandwidth_bound.specs.Trees.{Goal, TreeStands}
 
@@ -60,3 +61,13 @@ any_goal items = record {
 -- option
 abbrev pub HasOptions : List Item → List ℕ → Plain → Type 0
 HasOptions items p tree = TreeStands (any_goal items) p tree
+
+-- the least of some numbers, if there are any
+abbrev pub least_of : List ℕ → Option ℕ
+least_of [] = None
+least_of (n ∷ ns) = Some (least (n ∷ ns))
+
+-- the least of some numbers and of one before them, where there is one
+abbrev pub least_with : Option ℕ → List ℕ → Option ℕ
+least_with None ns = least_of ns
+least_with (Some n) ns = Some (least (n ∷ ns))

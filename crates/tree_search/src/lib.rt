@@ -7,6 +7,7 @@
 mod finding;
 mod judge;
 mod node;
+mod resuming;
 mod search;
 mod tree;
 mod trimming;
@@ -14,6 +15,6 @@ mod trimming;
 pub use finding::{Finding, Found};
 pub use judge::Judge;
 pub use node::Node;
-pub use search::Search;
+pub use search::{Opened, Search};
 pub use tree::{flatten, tree_of};
 pub use trimming::{trim, trim_tree};

@@ -1,14 +1,16 @@
 //! A search that stands at its first open leaf.
-ghost use Rattle.std.specs.Prelude.{◌≡◌, ◌+◌, ◌≤◌, ◌<◌, ◌++◌, ℕ, List, true, false, [], ◌∷◌, length, replicate, Option, None, OnOk, IfOk};
+ghost use Rattle.std.specs.Prelude.{◌≡◌, ◌+◌, ◌≤◌, ◌<◌, ◌++◌, ℕ, List, true, false, [], ◌∷◌, length, map, replicate, Option, None, OnOk, IfOk};
 ghost use Rattle.std.specs.Option.{option_copied};
 ghost use Rattle.cert_text.specs.PlainTree.{plain_of};
 ghost use Rattle.cert_text.specs.Trees.{left};
+ghost use Rattle.bandwidth_bound.specs.Trees.{open_places};
 ghost use Rattle.grouping_tree.specs.Grouped.{Belongs, labels_of, range_of, room_of};
 ghost use Rattle.grouping_tree.specs.Partial.{options_of};
 ghost use Rattle.grouping_tree.specs.Walk.{places_below, places_left};
 ghost use Rattle.pack_model.specs.declared.item.Item.{Item};
 ghost use Rattle.pack_model.specs.Problem.{Parts};
 ghost use Rattle.tree_search.specs.declared.finding.Finding.{Finding};
+ghost use Rattle.tree_search.specs.Open.{least_of, least_with};
 ghost use Rattle.tree_search.specs.Shown.{GoesOn, IsAt, IsOf, agenda, items_of, start_of};
 ghost use Rattle.tree_search.specs.Step.{Searched, Step, Steps};
 ghost use Rattle.tree_search.specs.Trim.{reaches, trim as trim_of};
@@ -22,6 +24,15 @@ use cert_text::Tree;
 use grouping_tree::Partial;
 use pack_model::{Labels, Memory, Problem};
 use std::alloc::Global;
+
+/// What a search ends with where leaves are open.
+#[derive(Debug, Drop)]
+pub struct Opened {
+    /// Its tree.
+    pub tree: Tree,
+    /// The least lower bound at the open leaves, in eighths of ticks a common period, if there are any.
+    pub least: Option<u128>,
+}
 
 /// A search over the partial groupings that extend the one at which it began: depth first, options by
 /// ascending label.
@@ -52,6 +63,29 @@ impl Search {
         ensures room { room_of result.partial ≡ room_of partial }
         ensures at { IsAt problem.now result (record { tree = left; best = best; found = None }) }
     {
+        Search::begin(alloc, problem, partial, best, None)
+    }
+
+    // The same, where something may have been found before.
+    pub(crate) fn begin(
+        alloc: Global,
+        problem: &Problem,
+        partial: Partial,
+        best: Option<u128>,
+        found: Option<Found>,
+    ) -> Search
+        requires { Belongs problem.now partial }
+        ensures search { IsOf problem.now result }
+        ensures items { items_of problem.now result ≡ range_of problem.now partial }
+        ensures start { start_of result ≡ labels_of partial }
+        ensures room { room_of result.partial ≡ room_of partial }
+        ensures at { IsAt problem.now result (record { tree = left; best = best; found = found }) }
+        ensures none { result.nodes.items ≡ [] }
+        ensures open { result.open ≡ true }
+        ensures first { result.base ≡ length (labels_of result.partial) }
+        ensures best { result.best ≡ best }
+        ensures found { result.found ≡ found }
+    {
         let base = partial.labels().len();
         Search {
             partial,
@@ -59,7 +93,7 @@ impl Search {
             nodes: Vec::new(alloc),
             open: true,
             best,
-            found: None,
+            found,
             alloc,
         }
     }
@@ -101,7 +135,7 @@ impl Search {
     }
 
     // The open leaf becomes a node without subtrees.
-    fn close(&mut self, problem: &Problem, node: Node) -> Result<(), Memory>
+    pub(crate) fn close(&mut self, problem: &Problem, node: Node) -> Result<(), Memory>
         requires { IsOf problem.now self.old }
         ensures goes_on { OnOk result (GoesOn problem.now self.old self.new) }
         ensures nodes { OnOk result (self.new.nodes.items ≡ self.old.nodes.items ++ node ∷ []) }
@@ -117,7 +151,7 @@ impl Search {
     }
 
     // The open leaf becomes an inner node with an open leaf for each option.
-    fn part(&mut self, problem: &Problem) -> Result<(), Memory>
+    pub(crate) fn part(&mut self, problem: &Problem) -> Result<(), Memory>
         requires search { IsOf problem.now self.old }
         requires open { self.old.open ≡ true }
         requires left { length (labels_of self.old.partial) < length (items_of problem.now self.old) }
@@ -233,10 +267,20 @@ impl Search {
         Ok(made)
     }
 
-    /// Its tree, with an open leaf at each place that is still to come.
-    pub fn into_tree(self, alloc: Global, problem: &Problem) -> Result<Tree, Memory>
-        requires { IsOf problem.now self }
-        ensures { IfOk result (λ tree. (x : Searched) → IsAt problem.now self x → plain_of tree ≡ x.tree) }
+    /// Its tree, with an open leaf at each place that is still to come, and the least lower bound there.
+    pub fn into_tree<J: Judge>(
+        self,
+        alloc: Global,
+        judge: &J,
+        problem: &Problem,
+    ) -> Result<Opened, Memory>
+        requires search { IsOf problem.now self }
+        requires suits { J.suits judge.now problem.now (items_of problem.now self) }
+        ensures tree { IfOk result (λ opened. (x : Searched) → IsAt problem.now self x
+            → plain_of opened.tree ≡ x.tree) }
+        ensures least { IfOk result (λ opened. (x : Searched) → IsAt problem.now self x
+            → opened.least ≡ least_of (map (J.bound_of judge.now problem.now (items_of problem.now self))
+            (open_places (items_of problem.now self) (start_of self) x.tree))) }
     {
         let Search {
             mut partial,
@@ -247,9 +291,9 @@ impl Search {
             found: _found,
             alloc: _alloc,
         } = self;
-        leave_open(problem, &mut partial, base, &mut nodes, open)?;
+        let least = leave_open(judge, problem, &mut partial, base, &mut nodes, open)?;
         let tree = tree_of(alloc, nodes)?;
-        Ok(tree)
+        Ok(Opened { tree, least })
     }
 
     /// Its tree, where no leaf is open, trimmed: an inner node whose lower bound reaches `value`, in eighths of
@@ -285,24 +329,42 @@ impl Search {
     }
 }
 
-// Puts an open leaf for each place that is open where a walk below its first `base` labels stands.
-fn leave_open(
+// Puts an open leaf for each place that is open where a walk below its first `base` labels stands, and
+// answers the least lower bound at these places.
+fn leave_open<J: Judge>(
+    judge: &J,
     problem: &Problem,
     partial: &mut Partial,
     base: usize,
     nodes: &mut Vec<Node>,
     is_open: bool,
-) -> Result<(), Memory>
+) -> Result<Option<u128>, Memory>
     requires belongs { Belongs problem.now partial.old }
+    requires suits { J.suits judge.now problem.now (range_of problem.now partial.old) }
     requires below { base ≤ length (labels_of partial.old) }
-    ensures { OnOk result (nodes.new.items ≡ nodes.old.items
+    ensures nodes { OnOk result (nodes.new.items ≡ nodes.old.items
         ++ replicate (length (agenda (range_of problem.now partial.old) base (labels_of partial.old) is_open))
         Node.Left) }
+    ensures least { IfOk result (λ least. let items = range_of problem.now partial.old
+        in least ≡ least_of (map (J.bound_of judge.now problem.now items)
+        (agenda items base (labels_of partial.old) is_open))) }
 {
+    let mut least = None;
     let mut more = is_open;
     while more {
+        least = Some(lesser(least, judge.lower8(problem, partial)));
         nodes.push(Node::Left)?;
         more = partial.leave(problem, base);
     }
-    Ok(())
+    Ok(least)
+}
+
+// The least of a bound and of one before it, if there is one.
+fn lesser(before: Option<u128>, bound: u128) -> u128
+    ensures { Some result ≡ least_with before (bound ∷ []) }
+{
+    match before {
+        Some(least) => least.min(bound),
+        None => bound,
+    }
 }
