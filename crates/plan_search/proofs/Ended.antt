@@ -84,10 +84,10 @@ bounds problem lemmas tree =
     map (lower8_of problem (values_of problem lemmas) problem.items) (open_places problem.items [] tree)
 
 -- the least of the bounds is told
-between : (best : Option ℕ) (xs : List ℕ)
-    → verdict_with best true (least_of xs) ≡ verdict.Between best (lower_with best (least xs))
-between best [] = refl
-between best (x ∷ xs) = refl
+between : (load : Option ℕ) (xs : List ℕ)
+    → verdict_with load true (least_of xs) ≡ verdict.Between load (lower_with load (least xs))
+between load [] = refl
+between load (x ∷ xs) = refl
 
 -- ---- what a plan ends with
 

@@ -21,7 +21,7 @@ use Rattle.plan_search.specs.declared.planned.Planned.{Planned}
 use Rattle.plan_search.specs.declared.planned.Planned.TheVariants as planned
 use Rattle.plan_search.specs.Plan.{Ends, IsWithin, load_found}
 use Rattle.plan_search.specs.Searches.{branches_of, nodes_of_cert, nodes_of_lemmas}
-use Rattle.plan_search.proofs.Ended.{opened_places}
+use Rattle.search_judge.proofs.Places.{opened_places}
 
 -- lemmas by strictly ascending sender, from one on and below another
 abbrev Climb : ℕ → ℕ → List (LemmaOf Plain) → Type 0

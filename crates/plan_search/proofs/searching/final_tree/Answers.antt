@@ -20,8 +20,8 @@ returns-in_ok-tree-in-Some-clause-least c = λ x at.
     least_none problem c.args.search x (lower8_of problem c.args.judge.now.values.items problem.items)
     c.requires.items c.requires.start closed at
 
-pub returns-in_ok-opened-clause-least : goal.returns-in_ok-opened-clause-least
-returns-in_ok-opened-clause-least c = λ x at.
+pub returns-in_ok-opened-in_default-clause-least : goal.returns-in_ok-opened-in_default-clause-least
+returns-in_ok-opened-in_default-clause-least c = λ x at.
     least_same c.args.problem.now c.args.judge.now.values.items (items_of c.args.problem.now c.args.search)
-    (start_of c.args.search) x.tree c.in_ok-opened.opened.least c.requires.items c.requires.start
-    (c.in_ok-opened.ensures.least x at)
+    (start_of c.args.search) x.tree c.in_ok-opened-in_default.opened.least c.requires.items c.requires.start
+    (c.in_ok-opened-in_default.ensures.least x at)
