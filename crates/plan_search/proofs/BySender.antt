@@ -15,6 +15,7 @@ use Rattle.grouping_tree.proofs.Classes.{get_or-front}
 use Rattle.grouping_tree.proofs.Fronts.{full-legal}
 use Rattle.grouping_tree.proofs.Puts.{class-unused}
 use Rattle.grouping_tree.proofs.Used.{partial-none}
+use Rattle.bandwidth_bound.proofs.PriceSplits.{class-both, classes-append}
 use Rattle.plan_search.specs.Begin.{put_together}
 
 -- ---- labels that follow others
@@ -22,11 +23,6 @@ use Rattle.plan_search.specs.Begin.{put_together}
 -- labels that follow those of so many classes
 abbrev pub after : ℕ → List ℕ → List ℕ
 after c labels = map (λ label. c + label) labels
-
--- the number of classes of two lists of labels is the greater
-classes-append : (p r : List ℕ) → classes_of (p ++ r) ≡ max (classes_of p) (classes_of r)
-classes-append [] r = omega arith
-classes-append (l ∷ p) r = omega (arith, classes-append p r)
 
 -- the classes of labels that follow come after those before
 classes-after : (c : ℕ) (r : List ℕ) → max c (classes_of (after c r)) ≡ c + classes_of r
@@ -40,7 +36,8 @@ class-after c k [] ys = refl
 class-after c k (l ∷ q) [] = refl
 class-after {X} c k (l ∷ q) (y ∷ ys) =
     class_of-cons (c + k) (c + l) (after c q) y ys
-    ∙ ap (λ b. cond b (y ∷ class_of (c + k) (after c q) ys) (class_of (c + k) (after c q) ys)) (same (cases_eq l k))
+    ∙ ap (λ b. cond b (y ∷ class_of (c + k) (after c q) ys) (class_of (c + k) (after c q) ys))
+    (same (cases_eq l k))
     ∙ ap (λ (zs : List X). cond (nat_eq l k) (y ∷ zs) zs) (class-after c k q ys)
     ∙ sym (class_of-cons k l q y ys)
   where
@@ -57,22 +54,6 @@ class-before {X} c k (l ∷ q) (y ∷ ys) lt =
     ∙ ap (λ b. cond b (y ∷ class_of k (after c q) ys) (class_of k (after c q) ys))
     (ne_eqb (c + l) k (λ e. omega arith))
     ∙ class-before c k q ys lt
-
--- the class of a label in two lists is that of the one and then that of the other
-class-both : {X : Type 0} (k : ℕ) (p r : List ℕ) (xs ys : List X) → length p ≡ length xs
-    → class_of k (p ++ r) (xs ++ ys) ≡ class_of k p xs ++ class_of k r ys
-class-both k [] r [] ys e = refl
-class-both k [] r (x ∷ xs) ys e = absurd (omega arith)
-class-both k (l ∷ p) r [] ys e = absurd (omega arith)
-class-both {X} k (l ∷ p) r (x ∷ xs) ys e = by (nat_eq l k) (class-both k p r xs ys (omega arith))
-  where
-    by : (b : Bool) → class_of k (p ++ r) (xs ++ ys) ≡ class_of k p xs ++ class_of k r ys
-        → map (λ (e : ℕ × X). e.1) (cond b ((l, x) ∷ filter (λ e. nat_eq e.0 k) (zip (p ++ r) (xs ++ ys)))
-        (filter (λ e. nat_eq e.0 k) (zip (p ++ r) (xs ++ ys))))
-        ≡ map (λ (e : ℕ × X). e.1) (cond b ((l, x) ∷ filter (λ e. nat_eq e.0 k) (zip p xs))
-        (filter (λ e. nat_eq e.0 k) (zip p xs))) ++ class_of k r ys
-    by true ih = ap (λ zs. x ∷ zs) ih
-    by false ih = ih
 
 take-both : (p : List ℕ) (k : ℕ) (r : List ℕ) → take (length p + k) (p ++ r) ≡ p ++ take k r
 take-both [] k r = let e : 0 + k ≡ k = omega arith in ap (λ n. take n r) e
@@ -168,7 +149,8 @@ after-none (l ∷ labels) =
     ap (λ m. m ∷ after 0 labels) e ∙ ap (λ (ms : List ℕ). l ∷ ms) (after-none labels)
 
 -- put together after so many classes more
-put-after : (c d : ℕ) (groupings : List (List ℕ)) → put_together (c + d) groupings ≡ after c (put_together d groupings)
+put-after : (c d : ℕ) (groupings : List (List ℕ)) → put_together (c + d) groupings
+    ≡ after c (put_together d groupings)
 put-after c d [] = refl
 put-after c d (g ∷ gs) =
     let e : c + d + classes_of g ≡ c + (d + classes_of g) = omega arith in
@@ -187,7 +169,8 @@ put-first g gs =
     ∙ ap (λ ls. g ++ ls) (put-after (classes_of g) 0 gs)
 
 -- there are as many classes as in all of them
-pub classes-together : (groupings : List (List ℕ)) → classes_of (put_together 0 groupings) ≡ sum_by classes_of groupings
+pub classes-together : (groupings : List (List ℕ)) → classes_of (put_together 0 groupings)
+    ≡ sum_by classes_of groupings
 classes-together [] = refl
 classes-together (g ∷ gs) =
     omega (
@@ -234,7 +217,8 @@ sent-other : (xs : List Item) (t s : ℕ) → (t ≡ s → ⊥) → sent_by (sen
 sent-other [] t s ne = refl
 sent-other (x ∷ xs) t s ne = by (cases_eq x.sender t) (sent-other xs t s ne)
   where
-    by : (x.sender ≡ t) ⊎ (x.sender ≡ t → ⊥) → sent_by (sent_by xs t) s ≡ [] → sent_by (sent_by (x ∷ xs) t) s ≡ []
+    by : (x.sender ≡ t) ⊎ (x.sender ≡ t → ⊥) → sent_by (sent_by xs t) s ≡ [] → sent_by (sent_by (x ∷ xs) t) s
+        ≡ []
     by (inl e) ih = rw (eq-eqb x.sender t e, ne_eqb x.sender s (λ f. ne (sym e ∙ f))) ih
     by (inr n) ih = rw (ne_eqb x.sender t n) ih
 
@@ -294,7 +278,8 @@ items-by_sender problem stands =
     let n = length problem.senders in
     let it = tests problem stands in
     let items : problem.items ≡ flat_map (sent_by xs) (range_with_len 0 n) =
-    it.items ∙ ap (λ (l : List (List ℕ)). flat_map (sent_by xs) (range_with_len 0 (length l))) (sym it.senders) in
+    it.items ∙ ap (λ (l : List (List ℕ)). flat_map (sent_by xs) (range_with_len 0 (length l)))
+    (sym it.senders) in
     each-agrees (sent_by problem.items) (sent_by xs) 0 n (λ s le lt.
     ap (λ ys. sent_by ys s) items ∙ sent-among xs s 0 n le lt)
     ∙ sym items
@@ -316,7 +301,8 @@ legal-all problem groupings stands all each =
 -- one label more
 pub classes-more : (labels : List ℕ) (i : ℕ) → i < length labels
     → classes_of (take (i + 1) labels) ≡ max (classes_of (take i labels)) (get_or labels i 0 + 1)
-classes-more labels i lt = ap classes_of (take_more labels i 0 lt) ∙ classes_of-push (take i labels) (get_or labels i 0)
+classes-more labels i lt = ap classes_of (take_more labels i 0 lt)
+    ∙ classes_of-push (take i labels) (get_or labels i 0)
 
 -- the element at a place, with the default that it is
 module _ (groupings : List (List ℕ)) (own : List ℕ) (i : ℕ) (lt : i < length groupings)

@@ -1,9 +1,10 @@
 -- What a plan ends with is accepted, trimmed, and has a text.
-use Rattle.std.proofs.Common.{◌≡◌, ℕ, ◌*◌, ◌≤◌, true, false, List, [], ◌∷◌, length, get_or, All, Option, None, Some, IfSome, refl, sym, ap, ◌∙◌, subst, arith}
+use Rattle.std.proofs.Common.{◌≡◌, ℕ, ◌*◌, ◌≤◌, true, false, List, [], ◌∷◌, length, get_or, map, All, Option, None, Some, IfSome, refl, sym, ap, ◌∙◌, subst, arith}
 use Rattle.std.proofs.lemmas.List.Elements.{All-nil}
 use Rattle.pack_model.specs.Problem.{Parts, IsProblem, IsSorted}
 use Rattle.pack_model.proofs.Laws.{tests}
 use Rattle.class_frame.specs.Classes.{load_of}
+use Rattle.class_frame.specs.Frame.{least}
 use Rattle.matrix_rows.specs.declared.matrix.MatrixRow.{MatrixRow}
 use Rattle.matrix_text.specs.Frames.{grouping_of}
 use Rattle.matrix_text.specs.Placed.{Placed}
@@ -15,42 +16,25 @@ use Rattle.cert_text.specs.Written.{CertFits, HasRoom, LemmaFits, MainFits}
 use Rattle.bandwidth_bound.specs.Goals.{FailsIn, eighths, main_goal}
 use Rattle.bandwidth_bound.specs.Lemmas.{LemmaStands, LemmasStand, values_of}
 use Rattle.bandwidth_bound.specs.Prices.{lower8_of}
-use Rattle.bandwidth_bound.specs.Rule.{Accepts, MatrixOfKind, TimingOfKind, best_of}
+use Rattle.bandwidth_bound.specs.declared.verdict.Verdict.TheVariants as verdict
+use Rattle.bandwidth_bound.specs.Rule.{Accepts, MatrixOfKind, TimingOfKind, best_of, lower_of}
 use Rattle.bandwidth_bound.specs.Timing.{TimingStands}
-use Rattle.bandwidth_bound.specs.Trees.{Goal, TreeStands, open_places}
+use Rattle.bandwidth_bound.specs.Trees.{TreeStands, open_places}
 use Rattle.tree_search.specs.declared.finding.Found.{Found}
-use Rattle.tree_search.specs.Open.{has_open}
+use Rattle.tree_search.specs.Open.{has_open, least_of}
 use Rattle.tree_search.specs.Trim.{reaches}
 use Rattle.tree_search.proofs.Counts.{is_trimmed}
-use Rattle.tree_search.proofs.Firsts.{has_open-is, is_more}
+use Rattle.search_judge.proofs.Places.{closed_places, opened_places}
 use Rattle.tree_search.proofs.Standing.{stands-along, stands-closed, stands-trim}
-use Rattle.plan_search.specs.Begin.{FoundStands}
+use Rattle.search_judge.specs.Findings.{FoundStands}
 use Rattle.plan_search.specs.declared.planned.Planned.{Planned}
 use Rattle.plan_search.specs.declared.planned.Planned.TheVariants as planned
+use Rattle.plan_search.specs.Ending.{lower_with, verdict_with}
 use Rattle.plan_search.specs.Plan.{Ends, IsShownBy, IsTrimmedPlan, best_cert, cert_of_plan, judged_plan, load_found, none_cert, open_cert, verdict_of_plan}
 use Rattle.plan_search.specs.Searches.{IsTrimmedIn, trimmed, LemmaIsTrimmed}
 use Rattle.plan_search.proofs.FewSenders.{senders_few}
 use Rattle.plan_search.proofs.Founds.{best, grouping, lines_have_room, placed, timing}
 use Rattle.plan_search.proofs.TreeFits.{standing_fits}
-
--- ---- open leaves
-
-none_open : (ps : List (List ℕ)) → is_more ps ≡ false → ps ≡ []
-none_open [] e = refl
-none_open (p ∷ ps) e = cc
-
-some_open : (ps : List (List ℕ)) → is_more ps ≡ true → 1 ≤ length ps
-some_open [] e = cc
-some_open (p ∷ ps) e = omega arith
-
-module _ (g : Goal) (p : List ℕ) (t : Plain) (h : TreeStands g p t) where
-  -- where no leaf is open there is no open place
-  pub closed_places : has_open t ≡ false → open_places g.items p t ≡ []
-  closed_places e = none_open (open_places g.items p t) (sym (has_open-is g p t h) ∙ e)
-
-  -- and where one is, there is one
-  pub opened_places : has_open t ≡ true → 1 ≤ length (open_places g.items p t)
-  opened_places e = some_open (open_places g.items p t) (sym (has_open-is g p t h) ∙ e)
 
 -- ---- trees
 
@@ -68,7 +52,8 @@ module _ (problem : Parts) (values : List ℕ) where
       → TreeStands (main_goal problem values (Some load) true) [] t
       → TreeStands (main_goal problem values (Some load) false) [] (trimmed problem None values (8 * load) t)
   trimmed_stands load t e h =
-      stands-trim (main_goal problem values (Some load) false) (8 * load) refl [] t (closed_stands (Some load) t e h)
+      stands-trim (main_goal problem values (Some load) false) (8 * load) refl [] t
+      (closed_stands (Some load) t e h)
 
   -- without a best the values of lemmas do not count
   none_stands : (others : List ℕ) (t : Plain) → TreeStands (main_goal problem values None false) [] t
@@ -90,6 +75,21 @@ open_timing : (problem : Parts) (rows : List MatrixRow) (lines : List FrameLine)
     → TimingOfKind KindBetween problem rows lines
 open_timing problem [] lines load e stands = cc
 open_timing problem (row ∷ rows) lines load e stands = stands
+
+-- ---- the verdict
+
+-- the bounds at the open leaves of a main tree
+abbrev bounds : Parts → List (LemmaOf Plain) → Plain → List ℕ
+bounds problem lemmas tree =
+    map (lower8_of problem (values_of problem lemmas) problem.items) (open_places problem.items [] tree)
+
+-- the least of the bounds is told
+between : (best : Option ℕ) (xs : List ℕ)
+    → verdict_with best true (least_of xs) ≡ verdict.Between best (lower_with best (least xs))
+between best [] = refl
+between best (x ∷ xs) = refl
+
+-- ---- what a plan ends with
 
 module _ (problem : Parts) (stands : IsProblem problem) (sorted : IsSorted problem.signals problem.items)
     (lemmas : List (LemmaOf Plain)) (lemmas_stand : LemmasStand problem lemmas) (tree : Plain) where
@@ -127,18 +127,22 @@ module _ (problem : Parts) (stands : IsProblem problem) (sorted : IsSorted probl
         placed problem stands sorted found.labels is.legal found.order is.lowest_first rows shown.matrix
 
     the_timing : TimingStands problem rows lines
-    the_timing = timing problem stands sorted found.labels is.legal found.order is.lowest_first rows shown.matrix
+    the_timing = timing problem stands sorted found.labels is.legal found.order is.lowest_first rows
+        shown.matrix
         lines shown.lines_are
 
     the_lines : All HasRoom lines
     the_lines =
-        lines_have_room problem stands sorted found.labels is.legal found.order is.lowest_first lines shown.lines_are
+        lines_have_room problem stands sorted found.labels is.legal found.order is.lowest_first lines
+        shown.lines_are
 
     best_accepted : has_open tree ≡ false → (cert : CertParts)
         → cert ≡ best_cert problem lines lemmas found.load tree
-        → Accepts (judged_plan problem (planned.Best rows cert)) (verdict_of_plan problem (planned.Best rows cert))
+        → Accepts (judged_plan problem (planned.Best rows cert))
+        (verdict_of_plan problem (planned.Best rows cert))
     best_accepted closed cert e =
-        subst (λ c. Accepts (judged_plan problem (planned.Best rows c)) (verdict_of_plan problem (planned.Best rows c)))
+        subst (λ c. Accepts (judged_plan problem (planned.Best rows c))
+        (verdict_of_plan problem (planned.Best rows c)))
         (sym e) (record {
           rule = record {
             matrix = the_matrix;
@@ -154,14 +158,16 @@ module _ (problem : Parts) (stands : IsProblem problem) (sorted : IsSorted probl
         })
 
     best_trimmed : All (LemmaIsTrimmed problem) lemmas → (cert : CertParts)
-        → cert ≡ best_cert problem lines lemmas found.load tree → IsTrimmedPlan problem (planned.Best rows cert)
+        → cert ≡ best_cert problem lines lemmas found.load tree
+        → IsTrimmedPlan problem (planned.Best rows cert)
     best_trimmed all cert e =
         subst (λ c. IsTrimmedPlan problem (planned.Best rows c)) (sym e) (
           all,
           subst (λ load. IsTrimmedIn problem None (values_of problem lemmas) (8 * load)
               (trimmed problem None (values_of problem lemmas) (8 * found.load) tree)) (sym the_load)
               (is_trimmed problem.items
-              (reaches (lower8_of problem (values_of problem lemmas) problem.items) (8 * found.load)) [] tree),
+              (reaches (lower8_of problem (values_of problem lemmas) problem.items) (8 * found.load)) []
+              tree),
         )
 
     spent_accepted : has_open tree ≡ true → (cert : CertParts) → cert ≡ open_cert lines lemmas tree
@@ -176,16 +182,19 @@ module _ (problem : Parts) (stands : IsProblem problem) (sorted : IsSorted probl
             tree = (
               record {
                 lemmas = lemmas_stand;
-                main = subst (λ load. TreeStands (main_goal problem (values_of problem lemmas) load true) [] tree)
+                main = subst (λ load. TreeStands (main_goal problem (values_of problem lemmas) load true) []
+                    tree)
                     (sym the_best) h;
               },
-              opened_places (main_goal problem (values_of problem lemmas) (Some found.load) true) [] tree h opened,
+              opened_places (main_goal problem (values_of problem lemmas) (Some found.load) true) [] tree h
+                  opened,
             );
           };
           of_kind = (refl, refl, refl);
         })
 
-    best_fits : has_open tree ≡ false → (cert : CertParts) → cert ≡ best_cert problem lines lemmas found.load tree
+    best_fits : has_open tree ≡ false → (cert : CertParts) → cert
+        ≡ best_cert problem lines lemmas found.load tree
         → CertFits cert
     best_fits closed cert e =
         subst CertFits (sym e) (record {
@@ -205,15 +214,21 @@ module _ (problem : Parts) (stands : IsProblem problem) (sorted : IsSorted probl
         })
 
   none_accepted : StandsWith None → has_open tree ≡ false → (cert : CertParts) → cert ≡ none_cert tree
-      → Accepts (judged_plan problem (planned.NoSolution cert)) (verdict_of_plan problem (planned.NoSolution cert))
+      → Accepts (judged_plan problem (planned.NoSolution cert))
+      (verdict_of_plan problem (planned.NoSolution cert))
   none_accepted h closed cert e =
-      subst (λ c. Accepts (judged_plan problem (planned.NoSolution c)) (verdict_of_plan problem (planned.NoSolution c)))
+      subst (λ c. Accepts (judged_plan problem (planned.NoSolution c))
+      (verdict_of_plan problem (planned.NoSolution c)))
       (sym e) (record {
         rule = record {
           matrix = refl;
           timing = refl;
           tree = record {
-            lemmas = record { ascending = λ k lt. absurd (omega arith); each = All-nil (LemmaStands problem) };
+            lemmas = record {
+              ascending = λ k lt. absurd (omega arith);
+              each =
+                  All-nil (LemmaStands problem);
+            };
             main = none_stands problem (values_of problem lemmas) (values_of problem []) tree
                 (closed_stands problem (values_of problem lemmas) None tree closed h);
           };
@@ -221,8 +236,10 @@ module _ (problem : Parts) (stands : IsProblem problem) (sorted : IsSorted probl
         of_kind = refl;
       })
 
-  without_accepted : StandsWith None → has_open tree ≡ true → (cert : CertParts) → cert ≡ open_cert [] lemmas tree
-      → Accepts (judged_plan problem (planned.Spent None cert)) (verdict_of_plan problem (planned.Spent None cert))
+  without_accepted : StandsWith None → has_open tree ≡ true → (cert : CertParts) → cert
+      ≡ open_cert [] lemmas tree
+      → Accepts (judged_plan problem (planned.Spent None cert))
+      (verdict_of_plan problem (planned.Spent None cert))
   without_accepted h opened cert e =
       subst (λ c. Accepts (judged_plan problem (planned.Spent None c))
       (verdict_of_plan problem (planned.Spent None c))) (sym e) (record {
@@ -242,22 +259,26 @@ module _ (problem : Parts) (stands : IsProblem problem) (sorted : IsSorted probl
       → StandsWith (load_found best) → Ends problem lemmas best tree plan
       → Accepts (judged_plan problem plan) (verdict_of_plan problem plan)
   ends_accepted one (planned.Best rows cert) is h ends =
-      best_accepted ends.1.0 (subst (λ b. IfSome b (FoundStands problem)) ends.1.1 is) rows cert.frames ends.1.2
+      best_accepted ends.1.0 (subst (λ b. IfSome b (FoundStands problem)) ends.1.1 is) rows cert.frames
+      ends.1.2
       (subst (λ b. StandsWith (load_found b)) ends.1.1 h) ends.0 cert ends.1.3
   ends_accepted one (planned.NoSolution cert) is h ends =
       none_accepted (subst (λ b. StandsWith (load_found b)) ends.1 h) ends.0 cert ends.2
   ends_accepted one (planned.Spent None cert) is h ends =
       without_accepted (subst (λ b. StandsWith (load_found b)) ends.1 h) ends.0 cert ends.2
   ends_accepted one (planned.Spent (Some rows) cert) is h ends =
-      spent_accepted ends.1.0 (subst (λ b. IfSome b (FoundStands problem)) ends.1.1 is) rows cert.frames ends.1.2
+      spent_accepted ends.1.0 (subst (λ b. IfSome b (FoundStands problem)) ends.1.1 is) rows cert.frames
+      ends.1.2
       (subst (λ b. StandsWith (load_found b)) ends.1.1 h) ends.0 cert ends.1.3
 
   -- it is trimmed where the lemmas are
   pub ends_trimmed : (best : Option Found) (plan : Planned) → IfSome best (FoundStands problem)
-      → StandsWith (load_found best) → All (LemmaIsTrimmed problem) lemmas → Ends problem lemmas best tree plan
+      → StandsWith (load_found best) → All (LemmaIsTrimmed problem) lemmas
+      → Ends problem lemmas best tree plan
       → IsTrimmedPlan problem plan
   ends_trimmed one (planned.Best rows cert) is h all ends =
-      best_trimmed ends.1.0 (subst (λ b. IfSome b (FoundStands problem)) ends.1.1 is) rows cert.frames ends.1.2
+      best_trimmed ends.1.0 (subst (λ b. IfSome b (FoundStands problem)) ends.1.1 is) rows cert.frames
+      ends.1.2
       (subst (λ b. StandsWith (load_found b)) ends.1.1 h) all cert ends.1.3
   ends_trimmed one (planned.NoSolution cert) is h all ends = ap (λ (c : CertParts). c.lemmas) ends.2
   ends_trimmed one (planned.Spent rows cert) is h all ends = tt
@@ -283,3 +304,34 @@ module _ (problem : Parts) (stands : IsProblem problem) (sorted : IsSorted probl
   ends_fits one (planned.Spent (Some rows) cert) is h ends =
       spent_fits ends.1.0 (subst (λ b. IfSome b (FoundStands problem)) ends.1.1 is) rows cert.frames ends.1.2
       (subst (λ b. StandsWith (load_found b)) ends.1.1 h) cert ends.1.3
+
+  -- it is what the load of the best grouping and the least bound at the open leaves of the main tree tell
+  pub ends_verdict : (best : Option Found) (plan : Planned) → IfSome best (FoundStands problem)
+      → StandsWith (load_found best) → Ends problem lemmas best tree plan → (lowest : Option ℕ)
+      → lowest ≡ least_of (bounds problem lemmas tree)
+      → verdict_with (load_found best) (has_open tree) lowest ≡ verdict_of_plan problem plan
+  ends_verdict one (planned.Best rows cert) is h ends lowest e =
+      (λ i. verdict_with (load_found (ends.1.1 i)) (ends.0 i) lowest)
+      ∙ ap (λ n. verdict.Best n)
+      (sym (the_load ends.1.0 (subst (λ b. IfSome b (FoundStands problem)) ends.1.1 is) rows cert.frames
+      ends.1.2
+      (subst (λ b. StandsWith (load_found b)) ends.1.1 h)))
+  ends_verdict one (planned.NoSolution cert) is h ends lowest e =
+      λ i. verdict_with (load_found (ends.1 i)) (ends.0 i) lowest
+  ends_verdict one (planned.Spent None cert) is h ends lowest e =
+      (λ i. verdict_with (load_found (ends.1 i)) (ends.0 i) (e i))
+      ∙ between None (bounds problem lemmas tree)
+      ∙ ap (λ (c : CertParts). verdict.Between None
+      (lower_of problem (values_of problem c.lemmas) None c.main_tree))
+      (sym ends.2)
+  ends_verdict one (planned.Spent (Some rows) cert) is h ends lowest e =
+      let load : Option ℕ = Some ends.1.0.load in
+      (λ i. verdict_with (load_found (ends.1.1 i)) (ends.0 i) (e i))
+      ∙ between load (bounds problem lemmas tree)
+      ∙ ap (λ (c : CertParts). verdict.Between load
+      (lower_of problem (values_of problem c.lemmas) load c.main_tree))
+      (sym ends.1.3)
+      ∙ ap (λ b. verdict.Between b (lower_of problem (values_of problem cert.lemmas) b cert.main_tree))
+      (sym (the_best ends.1.0 (subst (λ b. IfSome b (FoundStands problem)) ends.1.1 is) rows cert.frames
+      ends.1.2
+      (subst (λ b. StandsWith (load_found b)) ends.1.1 h)))

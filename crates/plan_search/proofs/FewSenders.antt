@@ -21,7 +21,8 @@ one_test true b f g = sym (f refl)
 one_test false true f g = g refl
 one_test false false f g = refl
 
-module _ (problem : Parts) (stands : IsProblem problem) (sorted : IsSorted problem.signals problem.items) where
+module _ (problem : Parts) (stands : IsProblem problem)
+    (sorted : IsSorted problem.signals problem.items) where
   -- the names of the items' senders, and of the signals'
   abbrev names : List (List ℕ)
   names = map (λ item. get_or problem.senders item.sender []) problem.items
@@ -36,7 +37,8 @@ module _ (problem : Parts) (stands : IsProblem problem) (sorted : IsSorted probl
   member_name item i k j d inside at among is =
       let all = subst (λ (x : Item). All (λ m. (e : Signal) → (get_or problem.signals m e).sender
       ≡ get_or problem.senders x.sender []) x.members) at (members_sender problem stands i item inside) in
-      subst (λ m. (get_or problem.signals m d).sender ≡ get_or problem.senders item.sender []) is (all j k among d)
+      subst (λ m. (get_or problem.signals m d).sender ≡ get_or problem.senders item.sender []) is
+      (all j k among d)
 
   -- the name of each signal's sender is that of an item
   named : (q : List ℕ) → list_any (bytes_eq q) from_signals ≡ true → list_any (bytes_eq q) names ≡ true
@@ -64,7 +66,8 @@ module _ (problem : Parts) (stands : IsProblem problem) (sorted : IsSorted probl
       omega (arith, inside, length-map problem.items (λ (y : Item). get_or problem.senders y.sender [])) in
       let (item, here) = element problem.items i low in
       let of : IsItemOf problem.signals item =
-      subst (IsItemOf problem.signals) (sym here) (items_of_signals problem.signals problem.items sorted i item low) in
+      subst (IsItemOf problem.signals) (sym here) (items_of_signals problem.signals problem.items sorted i
+      item low) in
       let name : get_or from_signals of.place [] ≡ x =
       get_or-map (λ (signal : Signal). signal.sender) problem.signals of.place of.signal [] of.within
       ∙ member_name item i of.place 0 of.signal low (sym here) (omega (arith, ap length of.members))
@@ -78,7 +81,8 @@ module _ (problem : Parts) (stands : IsProblem problem) (sorted : IsSorted probl
   -- there are at most as many senders as items
   pub senders_few : length problem.senders ≤ length problem.items
   senders_few =
-      let same : (q : List ℕ) → list_any (bytes_eq q) (senders_of problem.signals) ≡ list_any (bytes_eq q) names =
+      let same : (q : List ℕ) → list_any (bytes_eq q) (senders_of problem.signals)
+      ≡ list_any (bytes_eq q) names =
       λ q. list_any-distinct bytes_eq nat_list_eq_equiv q from_signals
       ∙ one_test (list_any (bytes_eq q) from_signals) (list_any (bytes_eq q) names) (named q) (signed q) in
       omega (

@@ -9,9 +9,10 @@ use Rattle.class_frame.specs.Classes.{frames_of_classes, load_of}
 use Rattle.class_frame.specs.Frame.{load_of_items, timed_of_items}
 use Rattle.class_frame.specs.Grouping.{class_of}
 use Rattle.class_frame.specs.Legal.{IsLegal}
+use Rattle.search_judge.specs.Findings.{FoundStands}
 use Rattle.tree_search.specs.declared.finding.Found.{Found}
 use Rattle.plan_search.specs.Alone.{labels_alone}
-use Rattle.plan_search.specs.Begin.{FoundStands, IsFirst, IsTimed, IsTimedIf, Turns, better_of, grouping_by_sender}
+use Rattle.plan_search.specs.Begin.{IsFirst, IsTimed, IsTimedIf, Turns, better_of, grouping_by_sender}
 
 -- the load of a grouping is that of its classes as frames
 pub loads-sum : (problem : Parts) (labels ls : List ℕ)
@@ -33,7 +34,8 @@ pub found-timed : (problem : Parts) (labels order : List ℕ) (frames : List Tim
     → load ≡ load_of problem problem.items labels
     → IsTimed problem labels (Some (record { labels = labels; order = order; load = load }))
 found-timed problem labels order frames bit load legal are time lowest passes load_is =
-    let passing : OrderPasses (frames_of_classes problem problem.items labels) problem.network.nominal_ticks order =
+    let passing : OrderPasses (frames_of_classes problem problem.items labels) problem.network.nominal_ticks
+    order =
     subst (λ b. OrderPasses (frames_of_classes problem problem.items labels) b order) time
     (subst (λ fs. OrderPasses fs bit order) are passes) in
     let first : IsLowestFirst (frames_of_classes problem problem.items labels) problem.network.nominal_ticks 0
@@ -51,9 +53,11 @@ timed-stands problem labels found it =
     record {
       legal = subst (IsLegal problem.items) same it.0.legal;
       lowest_first =
-          subst (λ l. IsLowestFirst (frames_of_classes problem problem.items l) problem.network.nominal_ticks 0
+          subst (λ l. IsLowestFirst (frames_of_classes problem problem.items l) problem.network.nominal_ticks
+          0
           found.order) same it.1.lowest_first;
-      passes = subst (λ l. OrderPasses (frames_of_classes problem problem.items l) problem.network.nominal_ticks
+      passes = subst (λ l. OrderPasses (frames_of_classes problem problem.items l)
+          problem.network.nominal_ticks
           found.order) same it.1.passes;
       load_is = it.1.load_is ∙ ap (load_of problem problem.items) same;
     }
@@ -68,7 +72,8 @@ timed-if : (problem : Parts) (labels : List ℕ) (found : Option Found) → IsTi
 timed-if problem labels None it = tt
 timed-if problem labels (Some found) it = timed-stands problem labels found it
 
-together-if : (problem : Parts) (labels : Option (List ℕ)) (found : Option Found) → IsTimedIf problem labels found
+together-if : (problem : Parts) (labels : Option (List ℕ)) (found : Option Found)
+    → IsTimedIf problem labels found
     → StandsIf problem found
 together-if problem None found it = subst (StandsIf problem) (sym it) tt
 together-if problem (Some labels) found it = timed-if problem labels found it

@@ -1,26 +1,21 @@
--- A grouping that was found, in its order: its frames, its matrix, and the lines that show that each frame passes.
+-- A grouping that was found, in its order: its frames, its matrix, and the lines that show that each frame
+-- passes.
 use Rattle.std.proofs.Common.{◌≡◌, ℕ, ◌<◌, ◌≤◌, List, [], ◌∷◌, length, get_or, All, Some, refl, sym, ap, ◌∙◌, subst, arith}
 use Rattle.std.specs.List.{range_with_len}
-use Rattle.std.proofs.lemmas.List.Elements.{All-map}
-use Rattle.std.proofs.lemmas.List.FromFn.{get_or-range_with_len, length-range_with_len}
 use Rattle.pack_model.specs.Problem.{Parts, IsProblem, IsSorted}
-use Rattle.pack_model.proofs.ItemFacts.{items_of_signals}
 use Rattle.pack_model.proofs.Laws.{tests}
 use Rattle.busy_period.specs.declared.timed.Timed.{Timed}
 use Rattle.busy_period.specs.Stage.{IsStage}
-use Rattle.busy_period.specs.Timed.{IsInRange}
 use Rattle.response_test.specs.Frame.{IsShown}
 use Rattle.response_test.specs.Order.{OrderPasses}
 use Rattle.priority_assign.specs.Lowest.{IsLowestFirst}
-use Rattle.priority_assign.proofs.Steps.{all_filled_passes}
 use Rattle.class_frame.specs.Classes.{frames_of_classes, load_of}
-use Rattle.class_frame.specs.Frame.{timed_of_items}
-use Rattle.class_frame.specs.Grouping.{class_of, classes_of, IsOrder}
+use Rattle.class_frame.specs.Grouping.{classes_of, IsOrder}
 use Rattle.class_frame.specs.Legal.{IsLegal}
 use Rattle.class_frame.proofs.ClassFrames.{count_frames, stage}
 use Rattle.class_frame.proofs.GroupingLaws.{classes_of-le-length, front_of, length-order}
-use Rattle.class_frame.proofs.Ranges.{frame_in_range}
-use Rattle.class_frame.proofs.Used.{class_has_signal}
+use Rattle.grouping_tree.specs.Partial.{IsPartial}
+use Rattle.grouping_tree.proofs.Fronts.{legal-partial}
 use Rattle.grouping_tree.proofs.Steps.{element}
 use Rattle.matrix_rows.specs.declared.matrix.MatrixRow.{MatrixRow}
 use Rattle.matrix_text.specs.Frames.{grouping_of, order_of}
@@ -32,7 +27,9 @@ use Rattle.cert_text.specs.declared.parts.FrameLine.{FrameLine}
 use Rattle.cert_text.specs.Written.{HasRoom}
 use Rattle.bandwidth_bound.specs.Rule.{best_of}
 use Rattle.bandwidth_bound.specs.Timing.{TimingStands}
+use Rattle.bandwidth_bound.proofs.Final.{all_items, frames_in_range}
 use Rattle.search_judge.specs.Findings.{frames_at}
+use Rattle.search_judge.proofs.Shows.{lowest_passes}
 use Rattle.plan_search.specs.Lines.{AreLeastLines}
 use Rattle.plan_search.proofs.LeastLines.{least_has_room, least_shows}
 use Rattle.plan_search.proofs.Orders.{classes_of-range, order_of_frames}
@@ -53,13 +50,15 @@ show_each bit lines frames order least passes place d inside =
 pub timing_stands : (problem : Parts) (rows : List MatrixRow) (labels order : List ℕ) (lines : List FrameLine)
     → grouping_of problem rows ≡ labels → order_of problem rows ≡ order
     → AreLeastLines (frames_at problem labels) order problem.network.nominal_ticks lines
-    → OrderPasses (frames_at problem labels) problem.network.nominal_ticks order → TimingStands problem rows lines
+    → OrderPasses (frames_at problem labels) problem.network.nominal_ticks order
+    → TimingStands problem rows lines
 timing_stands problem rows labels order lines grouping named least passes =
     let bit : ℕ = problem.network.nominal_ticks in
     record {
       count = least.count ∙ sym (ap length named);
       each =
-          subst (λ ls. ShowEach bit lines (frames_of_classes problem problem.items ls) (order_of problem rows))
+          subst (λ ls. ShowEach bit lines (frames_of_classes problem problem.items ls)
+          (order_of problem rows))
           (sym grouping)
           (subst (ShowEach bit lines (frames_at problem labels)) (sym named)
           (show_each bit lines (frames_at problem labels) order least passes));
@@ -103,39 +102,25 @@ module _ (problem : Parts) (labels order : List ℕ)
     (tests problem stands).few_items,
   )
 
-  -- it passes where the frames are in range
-  pub passes_in_range : IsProblem problem → All IsInRange (frames_at problem labels)
-      → OrderPasses (frames_at problem labels) problem.network.nominal_ticks order
-  passes_in_range stands in_range =
-      all_filled_passes (frames_at problem labels) problem.network.nominal_ticks order
-      (record { in_range = in_range; some_bit = stands.network.nominal_low }) lowest.fills
-
 module _ (problem : Parts) (stands : IsProblem problem) (sorted : IsSorted problem.signals problem.items)
     (labels : List ℕ) (legal : IsLegal problem.items labels) where
-  -- the frames of a legal grouping are in range
-  pub frames_in_range : All IsInRange (frames_at problem labels)
-  frames_in_range =
-      All-map IsInRange (λ label. timed_of_items problem (class_of label labels problem.items))
-      (range_with_len 0 (classes_of labels))
-      (λ k d inside.
-      let within : k < classes_of labels = omega (arith, inside, length-range_with_len 0 (classes_of labels)) in
-      let label : ℕ = get_or (range_with_len 0 (classes_of labels)) k d in
-      frame_in_range problem (class_of label labels problem.items) stands
-      (class_has_signal problem problem.items labels label
-      (items_of_signals problem.signals problem.items sorted) legal.grouping
-      (omega (arith, within, get_or-range_with_len 0 (classes_of labels) k d within))))
+  -- a legal grouping is a partial one
+  partial : IsPartial problem.items labels
+  partial = legal-partial problem.items labels legal
 
   module _ (order : List ℕ)
       (lowest : IsLowestFirst (frames_at problem labels) problem.network.nominal_ticks 0 order) where
     -- the order of lowest-priority-first assignment passes
-    pub order_passes : OrderPasses (frames_at problem labels) problem.network.nominal_ticks order
-    order_passes = passes_in_range problem labels order lowest stands frames_in_range
+    order_passes : OrderPasses (frames_at problem labels) problem.network.nominal_ticks order
+    order_passes = lowest_passes problem stands labels order partial lowest
 
-    -- and a stage at each place
+    -- there is a stage at each place
     pub stage_at : (place : ℕ) → place < length order → IsStage (frames_at problem labels) order place
     stage_at place inside =
-        stage problem labels order (frames_at problem labels) stands (front_of problem.items labels legal.grouping)
-        (is_order problem labels order lowest) refl frames_in_range place inside
+        stage problem labels order (frames_at problem labels) stands
+        (front_of problem.items labels legal.grouping)
+        (is_order problem labels order lowest) refl
+        (frames_in_range problem stands problem.items (all_items problem) labels partial) place inside
 
     module _ (rows : List MatrixRow) (is : rows ≡ rows_of problem labels order) where
       -- the matrix is placed, with this grouping and this order
@@ -164,7 +149,9 @@ module _ (problem : Parts) (stands : IsProblem problem) (sorted : IsSorted probl
 
     -- least lines have a text
     pub lines_have_room : (lines : List FrameLine)
-        → AreLeastLines (frames_at problem labels) order problem.network.nominal_ticks lines → All HasRoom lines
+        → AreLeastLines (frames_at problem labels) order problem.network.nominal_ticks lines
+        → All HasRoom lines
     lines_have_room lines least = λ place d inside.
-        least_has_room (frames_at problem labels) order problem.network.nominal_ticks place (get_or lines place d)
+        least_has_room (frames_at problem labels) order problem.network.nominal_ticks place
+        (get_or lines place d)
         (least.each place d inside) (stage_at place (omega (arith, inside, least.count)))

@@ -1,10 +1,10 @@
 -- The values of lemmas by sender.
-use Rattle.std.proofs.Common.{◌≡◌, ℕ, zero, suc, ◌+◌, ◌-◌, ◌<◌, cond, List, [], ◌∷◌, length, drop, get_or, map, replicate, refl, sym, ap, ◌∙◌, arith}
+use Rattle.std.proofs.Common.{◌≡◌, ℕ, zero, suc, ◌+◌, ◌-◌, ◌<◌, cond, List, [], ◌∷◌, length, drop, get_or, map, All, replicate, refl, sym, ap, ◌∙◌, arith}
 use Rattle.std.specs.List.{range_with_len}
 use Rattle.std.proofs.Math.ListN.{set}
 use Rattle.std.proofs.Math.Seq.{drop-cons}
 use Rattle.std.proofs.lemmas.Bool.{eq-eqb, ne_eqb}
-use Rattle.std.proofs.lemmas.List.{drop_all, length-map}
+use Rattle.std.proofs.lemmas.List.{drop_all, get_or-map, length-map}
 use Rattle.std.proofs.lemmas.List.FromFn.{length-range_with_len}
 use Rattle.pack_model.specs.Problem.{Parts}
 use Rattle.cert_text.specs.declared.parts.Lemma.{Lemma}
@@ -26,7 +26,8 @@ module _ (lemma : LemmaOf Plain) (lemmas : List (LemmaOf Plain)) where
       → map (value_of (lemma ∷ lemmas)) (range_with_len a n) ≡ map (value_of lemmas) (range_with_len a n)
   later a zero lt = refl
   later a (suc n) lt =
-      ap (λ v. v ∷ map (value_of (lemma ∷ lemmas)) (range_with_len (a + 1) n)) (other a (λ e. omega (arith, e)))
+      ap (λ v. v ∷ map (value_of (lemma ∷ lemmas)) (range_with_len (a + 1) n))
+      (other a (λ e. omega (arith, e)))
       ∙ ap (λ (vs : List ℕ). value_of lemmas a ∷ vs) (later (a + 1) n (omega arith))
 
   value-set : (a n j : ℕ) → j < n → lemma.sender ≡ a + j
@@ -34,11 +35,13 @@ module _ (lemma : LemmaOf Plain) (lemmas : List (LemmaOf Plain)) where
       ≡ set (map (value_of lemmas) (range_with_len a n)) j lemma.value
   value-set a zero j lt is = absurd (omega arith)
   value-set a (suc n) zero lt is =
-      ap (λ b. cond b lemma.value (value_of lemmas a) ∷ map (value_of (lemma ∷ lemmas)) (range_with_len (a + 1) n))
+      ap (λ b. cond b lemma.value (value_of lemmas a) ∷ map (value_of (lemma ∷ lemmas))
+      (range_with_len (a + 1) n))
       (eq-eqb lemma.sender a (omega (arith, is)))
       ∙ ap (λ (vs : List ℕ). lemma.value ∷ vs) (later (a + 1) n (omega (arith, is)))
   value-set a (suc n) (suc j) lt is =
-      ap (λ v. v ∷ map (value_of (lemma ∷ lemmas)) (range_with_len (a + 1) n)) (other a (λ e. omega (arith, e, is)))
+      ap (λ v. v ∷ map (value_of (lemma ∷ lemmas)) (range_with_len (a + 1) n))
+      (other a (λ e. omega (arith, e, is)))
       ∙ ap (λ (vs : List ℕ). value_of lemmas a ∷ vs) (value-set (a + 1) n j (omega arith) (omega (arith, is)))
 
   -- one lemma before the others sets its sender's
@@ -72,7 +75,8 @@ pub values-none : (problem : Parts) (lemmas : List Lemma) (values : List ℕ)
     → values ≡ values_of problem (map plain_lemma (drop (length lemmas - 0) lemmas))
 values-none problem lemmas values are =
     are ∙ sym (no-values 0 (length problem.senders))
-    ∙ ap (λ ls. values_of problem (map plain_lemma ls)) (sym (drop_all (length lemmas - 0) lemmas (omega arith)))
+    ∙ ap (λ ls. values_of problem (map plain_lemma ls))
+    (sym (drop_all (length lemmas - 0) lemmas (omega arith)))
 
 -- there is one for each sender
 pub length-values : (problem : Parts) (lemmas : List (LemmaOf Plain))
@@ -80,3 +84,13 @@ pub length-values : (problem : Parts) (lemmas : List (LemmaOf Plain))
 length-values problem lemmas =
     length-map (range_with_len 0 (length problem.senders)) (value_of lemmas)
     ∙ length-range_with_len 0 (length problem.senders)
+
+-- where the senders of lemmas are there, they are of the lemmas that the code holds
+pub senders-low : (problem : Parts) (lemmas : List Lemma)
+    → All (λ (lemma : LemmaOf Plain). lemma.sender < length problem.senders) (map plain_lemma lemmas)
+    → All (λ (lemma : Lemma). lemma.sender < length problem.senders) lemmas
+senders-low problem lemmas low k d lt = omega (
+  arith,
+  low k (plain_lemma d) (omega (arith, lt, length-map lemmas plain_lemma)),
+  ap (λ (l : LemmaOf Plain). l.sender) (get_or-map plain_lemma lemmas k d (plain_lemma d) lt),
+)

@@ -22,5 +22,4 @@ pub mod Spends
 pub mod TreeFits
 pub mod TurnLaws
 pub mod TurnSteps
-pub mod Values
 pub mod Within

@@ -1,28 +1,21 @@
 -- A problem has one plan in which each item has a frame of its own.
-use Rattle.std.proofs.Common.{◌≡◌, ℕ, ◌<◌, List, length, get_or, All, ap, sym, ◌∙◌, subst, arith}
-use Rattle.std.specs.List.{range_with_len}
+use Rattle.std.proofs.Common.{◌≡◌, ℕ, List, length, get_or, ap, sym, ◌∙◌, subst, arith}
 use Rattle.std.proofs.lemmas.List.{get_or_default, same_lists}
-use Rattle.std.proofs.lemmas.List.Elements.{All-map}
-use Rattle.std.proofs.lemmas.List.FromFn.{get_or-range_with_len, length-range_with_len}
 use Rattle.pack_model.specs.Problem.{Parts, IsProblem, IsSorted}
-use Rattle.pack_model.proofs.ItemFacts.{items_of_signals}
 use Rattle.busy_period.specs.declared.timed.Timed.{Timed}
 use Rattle.busy_period.specs.Busy.{IsBusy}
 use Rattle.busy_period.specs.Demand.{demand_of, instances_of}
 use Rattle.busy_period.specs.Stage.{own_of}
-use Rattle.busy_period.specs.Timed.{IsInRange}
 use Rattle.busy_period.proofs.Least.{least_unique}
 use Rattle.response_test.specs.Frame.{FrameCanStart}
 use Rattle.priority_assign.proofs.OneOrder.{one_order}
-use Rattle.class_frame.specs.Frame.{timed_of_items}
-use Rattle.class_frame.specs.Grouping.{class_of, classes_of}
-use Rattle.class_frame.proofs.Ranges.{frame_in_range}
-use Rattle.class_frame.proofs.Used.{class_has_signal}
 use Rattle.matrix_rows.specs.declared.matrix.MatrixRow.{MatrixRow}
 use Rattle.matrix_text.specs.LaidOut.{rows_of}
 use Rattle.matrix_layout.proofs.OneEach.{one_each_legal}
+use Rattle.grouping_tree.proofs.Fronts.{legal-partial}
 use Rattle.cert_text.specs.Parts.{CertParts}
 use Rattle.cert_text.specs.declared.parts.FrameLine.{FrameLine}
+use Rattle.bandwidth_bound.proofs.Final.{all_items, frames_in_range}
 use Rattle.plan_search.specs.declared.alone.Alone.{Alone}
 use Rattle.plan_search.specs.declared.alone.Alone.TheVariants as alone
 use Rattle.plan_search.specs.Alone.{IsInTime, IsPlanAlone, frames_alone, labels_alone, timed_parts}
@@ -54,23 +47,7 @@ module _ (frames : List Timed) (order : List ℕ) (bit : ℕ) where
       one_line i (get_or lines i d) (get_or others i d) (least.each i d inside)
       (least'.each i d (omega (arith, inside, long))))
 
-module _ (problem : Parts) (stands : IsProblem problem)
-    (sorted : IsSorted problem.signals problem.items) where
-  -- the frames of one item each are in range
-  frames_in_range : All IsInRange (frames_alone problem)
-  frames_in_range =
-      All-map IsInRange (λ label. timed_of_items problem
-      (class_of label (labels_alone problem) problem.items))
-      (range_with_len 0 (classes_of (labels_alone problem)))
-      (λ k d inside.
-      let within : k < classes_of (labels_alone problem) = omega
-      (arith, inside, length-range_with_len 0 (classes_of (labels_alone problem))) in
-      let label : ℕ = get_or (range_with_len 0 (classes_of (labels_alone problem))) k d in
-      frame_in_range problem (class_of label (labels_alone problem) problem.items) stands
-      (class_has_signal problem problem.items (labels_alone problem) label
-      (items_of_signals problem.signals problem.items sorted) (one_each_legal problem stands).grouping
-      (omega (arith, within, get_or-range_with_len 0 (classes_of (labels_alone problem)) k d within))))
-
+module _ (problem : Parts) (stands : IsProblem problem) where
   -- frames in time have one order, one matrix and one certificate
   one_in_time : (rows others : List MatrixRow) (cert other : CertParts) → IsInTime problem rows cert
       → IsInTime problem others other
@@ -78,7 +55,11 @@ module _ (problem : Parts) (stands : IsProblem problem)
   one_in_time rows others cert other it that =
       let order : it.order ≡ that.order =
       one_order (frames_alone problem) problem.network.nominal_ticks
-      (record { in_range = frames_in_range; some_bit = stands.network.nominal_low })
+      (record {
+        in_range = frames_in_range problem stands problem.items (all_items problem) (labels_alone problem)
+            (legal-partial problem.items (labels_alone problem) (one_each_legal problem stands));
+        some_bit = stands.network.nominal_low;
+      })
       it.order that.order it.lowest_first.fills that.lowest_first.fills in
       let same_rows : rows ≡ others = it.matrix ∙ ap (rows_of problem (labels_alone problem)) order
       ∙ sym that.matrix in
@@ -93,7 +74,7 @@ pub one_plan : (problem : Parts) (plan other : Alone) → IsProblem problem
     → IsSorted problem.signals problem.items
     → IsPlanAlone problem plan → IsPlanAlone problem other → plan ≡ other
 one_plan problem (alone.InTime rows cert) (alone.InTime rows' cert') stands sorted it that =
-    one_in_time problem stands sorted rows rows' cert cert' it.1 that.1
+    one_in_time problem stands rows rows' cert cert' it.1 that.1
 one_plan problem (alone.InTime rows cert) (alone.Untimed rows') stands sorted it that = absurd (that.0 it.0)
 one_plan problem (alone.Untimed rows) (alone.InTime rows' cert') stands sorted it that = absurd (it.0 that.0)
 one_plan problem (alone.Untimed rows) (alone.Untimed rows') stands sorted it that = ap alone.Untimed

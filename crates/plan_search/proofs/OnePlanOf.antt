@@ -4,13 +4,15 @@ use Rattle.pack_model.specs.Problem.{Parts, IsProblem, IsSorted}
 use Rattle.priority_assign.specs.Lowest.{IsLowestFirst}
 use Rattle.priority_assign.proofs.OneOrder.{one_order}
 use Rattle.class_frame.specs.Legal.{IsLegal}
+use Rattle.grouping_tree.proofs.Fronts.{legal-partial}
 use Rattle.matrix_rows.specs.declared.matrix.MatrixRow.{MatrixRow}
 use Rattle.cert_text.specs.declared.parts.FrameLine.{FrameLine}
 use Rattle.cert_text.specs.Parts.{LemmaOf}
 use Rattle.cert_text.specs.Trees.{Plain}
 use Rattle.bandwidth_bound.specs.Lemmas.{values_of}
+use Rattle.bandwidth_bound.proofs.Final.{all_items, frames_in_range}
 use Rattle.search_judge.specs.Findings.{frames_at}
-use Rattle.search_judge.specs.Laws.{FindingsShow, OneIsFound}
+use Rattle.search_judge.specs.Laws.{OneIsFound}
 use Rattle.tree_search.specs.declared.finding.Found.{Found}
 use Rattle.tree_search.specs.Open.{has_open}
 use Rattle.tree_search.specs.Step.{Searched}
@@ -20,18 +22,22 @@ use Rattle.plan_search.specs.Alone.{labels_alone}
 use Rattle.plan_search.specs.Begin.{AreTurns, IsFirst, IsTimed, IsTimedIf, IsTurn, Turns, after_turn, better_of, grouping_by_sender, lemma_of, share_of, turn_count}
 use Rattle.plan_search.specs.Searches.{IsSearch}
 use Rattle.plan_search.specs.Plan.{Ends, IsPlanOf, IsShownBy, best_cert, last_found, load_found, open_cert}
-use Rattle.plan_search.proofs.Founds.{frames_in_range}
 use Rattle.plan_search.proofs.OnePlan.{one_list}
 use Rattle.plan_search.proofs.OneSearch.{search_one}
 
-module _ (problem : Parts) (stands : IsProblem problem) (sorted : IsSorted problem.signals problem.items) where
+module _ (problem : Parts) (stands : IsProblem problem)
+    (sorted : IsSorted problem.signals problem.items) where
   -- a legal grouping has one order of lowest-priority-first assignment
   order_one : (labels order other : List ℕ) → IsLegal problem.items labels
       → IsLowestFirst (frames_at problem labels) problem.network.nominal_ticks 0 order
       → IsLowestFirst (frames_at problem labels) problem.network.nominal_ticks 0 other → order ≡ other
   order_one labels order other legal it that =
       one_order (frames_at problem labels) problem.network.nominal_ticks
-      (record { in_range = frames_in_range problem stands sorted labels legal; some_bit = stands.network.nominal_low })
+      (record {
+        in_range = frames_in_range problem stands problem.items (all_items problem) labels
+            (legal-partial problem.items labels legal);
+        some_bit = stands.network.nominal_low;
+      })
       order other it.fills that.fills
 
   -- a grouping in time is one
@@ -57,19 +63,20 @@ module _ (problem : Parts) (stands : IsProblem problem) (sorted : IsSorted probl
       → IsFirst problem turns other → first ≡ other
   first_one turns first other it that =
       let together : it.together ≡ that.together =
-      timed_if_one (grouping_by_sender problem turns) it.together that.together it.together_is that.together_is in
+      timed_if_one (grouping_by_sender problem turns) it.together that.together it.together_is
+      that.together_is in
       let alone : it.alone ≡ that.alone =
       timed_one (labels_alone problem) it.alone that.alone it.alone_is that.alone_is in
       it.first_is ∙ (λ i. better_of (together i) (alone i)) ∙ sym that.first_is
 
-  module _ (shows : FindingsShow) (one : OneIsFound) where
+  module _ (one : OneIsFound) where
     -- a sender's turn goes in one way
     turn_one : (sender : ℕ) (before after other : Turns) → IsTurn problem sender before after
         → IsTurn problem sender before other → after ≡ other
     turn_one sender before after other it that = by (has_open that.end.tree) refl
       where
         same : it.end ≡ that.end
-        same = search_one problem stands shows one (Some sender) [] None
+        same = search_one problem stands one (Some sender) [] None
             (share_of before.left (length problem.senders - sender)) it.end that.end it.search that.search
 
         by : (b : Bool) → has_open that.end.tree ≡ b → after ≡ other
@@ -93,7 +100,8 @@ module _ (problem : Parts) (stands : IsProblem problem) (sorted : IsSorted probl
 
 -- what shows a grouping is one
 shown_one : (problem : Parts) (found found' : Found) → found ≡ found' → (rows others : List MatrixRow)
-    (lines lines' : List FrameLine) → IsShownBy problem found rows lines → IsShownBy problem found' others lines'
+    (lines lines' : List FrameLine) → IsShownBy problem found rows lines
+    → IsShownBy problem found' others lines'
     → (rows ≡ others) × (lines ≡ lines')
 shown_one problem found found' same rows others lines lines' it that =
     let here : IsShownBy problem found' rows lines = subst (λ f. IsShownBy problem f rows lines) same it in (
@@ -109,7 +117,8 @@ not_both b e f = let both : false ≡ true = sym e ∙ f in cc
 not_none : (best : Option Found) (found : Found) → best ≡ Some found → best ≡ None → ⊥
 not_none best found e f = let both : Some found ≡ None = sym e ∙ f in cc
 
-one_found : (best : Option Found) (found other : Found) → best ≡ Some found → best ≡ Some other → found ≡ other
+one_found : (best : Option Found) (found other : Found) → best ≡ Some found → best ≡ Some other → found
+    ≡ other
 one_found best found other e f = let both : Some found ≡ Some other = sym e ∙ f in cc
 
 module _ (problem : Parts) (lemmas : List (LemmaOf Plain)) (best : Option Found) (tree : Plain) where
@@ -118,7 +127,8 @@ module _ (problem : Parts) (lemmas : List (LemmaOf Plain)) (best : Option Found)
       → plan ≡ other
   ends_one (planned.Best rows cert) (planned.Best others cert') it that =
       let same : it.1.0 ≡ that.1.0 = one_found best it.1.0 that.1.0 it.1.1 that.1.1 in
-      let shown = shown_one problem it.1.0 that.1.0 same rows others cert.frames cert'.frames it.1.2 that.1.2 in
+      let shown = shown_one problem it.1.0 that.1.0 same rows others cert.frames cert'.frames it.1.2 that.1.2
+      in
       let equal : cert ≡ cert' = it.1.3 ∙ (λ i. best_cert problem (shown.1 i) lemmas (same i).load tree)
       ∙ sym that.1.3 in
       λ i. planned.Best (shown.0 i) (equal i)
@@ -130,7 +140,8 @@ module _ (problem : Parts) (lemmas : List (LemmaOf Plain)) (best : Option Found)
       absurd (not_both (has_open tree) it.0 that.0)
   ends_one (planned.NoSolution cert) (planned.Best others cert') it that =
       absurd (not_none best that.1.0 that.1.1 it.1)
-  ends_one (planned.NoSolution cert) (planned.NoSolution cert') it that = ap planned.NoSolution (it.2 ∙ sym that.2)
+  ends_one (planned.NoSolution cert) (planned.NoSolution cert') it that =
+      ap planned.NoSolution (it.2 ∙ sym that.2)
   ends_one (planned.NoSolution cert) (planned.Spent None cert') it that =
       absurd (not_both (has_open tree) it.0 that.0)
   ends_one (planned.NoSolution cert) (planned.Spent (Some others) cert') it that =
@@ -151,17 +162,18 @@ module _ (problem : Parts) (lemmas : List (LemmaOf Plain)) (best : Option Found)
       absurd (not_none best it.1.0 it.1.1 that.1)
   ends_one (planned.Spent (Some rows) cert) (planned.Spent (Some others) cert') it that =
       let same : it.1.0 ≡ that.1.0 = one_found best it.1.0 that.1.0 it.1.1 that.1.1 in
-      let shown = shown_one problem it.1.0 that.1.0 same rows others cert.frames cert'.frames it.1.2 that.1.2 in
+      let shown = shown_one problem it.1.0 that.1.0 same rows others cert.frames cert'.frames it.1.2 that.1.2
+      in
       let equal : cert ≡ cert' = it.1.3 ∙ (λ i. open_cert (shown.1 i) lemmas tree) ∙ sym that.1.3 in
       λ i. planned.Spent (Some (shown.0 i)) (equal i)
 
 -- there is one plan
-pub plan_one : (problem : Parts) (shows : FindingsShow) (one : OneIsFound) (branches : ℕ) (plan other : Planned)
+pub plan_one : (problem : Parts) (one : OneIsFound) (branches : ℕ) (plan other : Planned)
     → IsProblem problem → IsSorted problem.signals problem.items → IsPlanOf problem branches plan
     → IsPlanOf problem branches other → plan ≡ other
-plan_one problem shows one branches plan other stands sorted it that =
+plan_one problem one branches plan other stands sorted it that =
     let turns : it.begins.turns ≡ that.begins.turns =
-    turns_one problem stands sorted shows one branches (turn_count problem) it.begins.turns that.begins.turns
+    turns_one problem stands sorted one branches (turn_count problem) it.begins.turns that.begins.turns
     it.begins.are that.begins.are in
     let lemmas : it.lemmas ≡ that.lemmas =
     it.begins.lemmas_are ∙ ap (λ (t : Turns). t.lemmas) turns ∙ sym that.begins.lemmas_are in
@@ -170,15 +182,18 @@ plan_one problem shows one branches plan other stands sorted it that =
     let first : it.first ≡ that.first =
     first_one problem stands sorted that.begins.turns it.first that.first
     (subst (λ t. IsFirst problem t it.first) turns it.begins.first_is) that.begins.first_is in
-    let search : IsSearch problem None (values_of problem that.lemmas) (load_found that.first) that.left it.end =
+    let search : IsSearch problem None (values_of problem that.lemmas)
+    (load_found that.first) that.left it.end =
     subst (λ ls. IsSearch problem None (values_of problem ls) (load_found that.first) that.left it.end) lemmas
     (subst (λ f. IsSearch problem None (values_of problem it.lemmas) (load_found f) that.left it.end) first
-    (subst (λ n. IsSearch problem None (values_of problem it.lemmas) (load_found it.first) n it.end) left it.search)) in
+    (subst (λ n. IsSearch problem None (values_of problem it.lemmas) (load_found it.first) n it.end) left
+    it.search)) in
     let end : it.end ≡ that.end =
-    search_one problem stands shows one None (values_of problem that.lemmas) (load_found that.first) that.left
+    search_one problem stands one None (values_of problem that.lemmas) (load_found that.first) that.left
     it.end that.end search that.search in
     let ends : Ends problem that.lemmas (last_found that.end.found that.first) that.end.tree plan =
     subst (λ ls. Ends problem ls (last_found that.end.found that.first) that.end.tree plan) lemmas
     (subst (λ (x : Searched). Ends problem it.lemmas (last_found x.found that.first) x.tree plan) end
     (subst (λ f. Ends problem it.lemmas (last_found it.end.found f) it.end.tree plan) first it.ends)) in
-    ends_one problem that.lemmas (last_found that.end.found that.first) that.end.tree plan other ends that.ends
+    ends_one problem that.lemmas (last_found that.end.found that.first) that.end.tree plan other ends
+    that.ends

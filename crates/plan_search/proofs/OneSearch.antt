@@ -4,18 +4,22 @@ use Rattle.std.proofs.lemmas.Bool.{cases_eq, cases_lt}
 use Rattle.pack_model.specs.Problem.{Parts, IsProblem}
 use Rattle.grouping_tree.specs.Grouped.{items_in}
 use Rattle.grouping_tree.specs.Partial.{IsPartial}
+use Rattle.grouping_tree.proofs.Used.{partial-none}
 use Rattle.bandwidth_bound.specs.Goals.{eighths, range_goal}
 use Rattle.bandwidth_bound.specs.Trees.{Goal, TreeStands}
 use Rattle.search_judge.specs.Findings.{Finds}
-use Rattle.search_judge.specs.Laws.{FindingsShow, OneIsFound}
+use Rattle.search_judge.specs.Laws.{OneIsFound}
+use Rattle.search_judge.proofs.Places.{closed_places, place_partial, tree_steps}
 use Rattle.tree_search.specs.Open.{has_open}
 use Rattle.tree_search.specs.Step.{Searched, Step, Steps, after}
 use Rattle.plan_search.specs.Searches.{IsSearch, begun_with}
-use Rattle.plan_search.proofs.Ended.{closed_places}
-use Rattle.plan_search.proofs.SearchLaws.{place_partial, tree_steps}
 
-module _ (problem : Parts) (stands : IsProblem problem) (shows : FindingsShow) (one : OneIsFound)
-    (range : Option ℕ) (values : List ℕ) where
+module _ (problem : Parts) (stands : IsProblem problem) (one : OneIsFound) (range : Option ℕ)
+    (values : List ℕ) where
+  -- the empty grouping is a partial one
+  start : IsPartial (items_in problem.items range) []
+  start = partial-none (items_in problem.items range)
+
   abbrev goal_with : Option ℕ → Goal
   goal_with best = range_goal problem range values (eighths best) true
 
@@ -34,7 +38,7 @@ module _ (problem : Parts) (stands : IsProblem problem) (shows : FindingsShow) (
       let both : s.place ∷ s.rest ≡ t.place ∷ t.rest = sym s.first ∙ t.first in
       let place : s.place ≡ t.place = cc in
       let partial : IsPartial (items_in problem.items range) t.place =
-      place_partial problem stands shows range values x z t h in
+      place_partial problem stands range values [] start x z t h in
       let finding : s.finding ≡ t.finding =
       one problem stands range values x.best t.place partial s.finding t.finding
       (subst (λ p. Finds problem range values x.best p s.finding) place s.finds) t.finds in
@@ -45,11 +49,12 @@ module _ (problem : Parts) (stands : IsProblem problem) (shows : FindingsShow) (
   steps_one zero x y z h s t = s ∙ sym t
   steps_one (suc n) x y z h s t =
       let before : s.0 ≡ t.0 = steps_one n x s.0 t.0 h s.1 t.1 in
-      step_one t.0 y z (tree_steps problem stands shows range values n x t.0 t.1 h)
+      step_one t.0 y z (tree_steps problem stands range values [] start n x t.0 t.1 h)
       (subst (λ w. Goes w y) before s.2) t.2
 
   -- before the last of some steps there is a step after each number of them
-  earlier : (m n : ℕ) (x z : Searched) → n < m → Makes m x z → (y : Searched) × Makes n x y × (w : Searched) × Goes y w
+  earlier : (m n : ℕ) (x z : Searched) → n < m → Makes m x z → (y : Searched) × Makes n x y × (w : Searched)
+      × Goes y w
   earlier zero n x z lt s = absurd (omega arith)
   earlier (suc m) n x z lt s = by (cases_eq n m) (earlier m n x s.0)
     where
@@ -70,9 +75,10 @@ module _ (problem : Parts) (stands : IsProblem problem) (shows : FindingsShow) (
         let (y, steps, w, step) = earlier t.made s.made (begun_with best) other less t.steps in
         let same : y ≡ end = steps_one s.made (begun_with best) y end begins steps s.steps in
         let closed : has_open y.tree ≡ false =
-        subst (λ (x : Searched). has_open x.tree ≡ false) (sym same) (s.fewer (omega (arith, less, t.within))) in
+        subst (λ (x : Searched). has_open x.tree ≡ false) (sym same)
+        (s.fewer (omega (arith, less, t.within))) in
         let none = closed_places (goal_with y.best) [] y.tree
-        (tree_steps problem stands shows range values s.made (begun_with best) y steps begins) closed in
+        (tree_steps problem stands range values [] start s.made (begun_with best) y steps begins) closed in
         let some : [] ≡ step.place ∷ step.rest = sym none ∙ step.first in cc
 
     -- a search ends in one way

@@ -1,43 +1,35 @@
 -- The search over one sender's items: what its tree shows, what it found, and how many nodes its tree has.
 use Rattle.std.proofs.Common.{◌≡◌, ℕ, zero, suc, ◌+◌, ◌*◌, ◌^◌, ◌<◌, ◌≤◌, ◌⊎◌, inl, inr, ◌||◌, Bool, true, false, cond, List, [], ◌∷◌, ◌++◌, length, filter, All, Option, Some, None, nat_eq, nat_lt, Contains, refl, sym, ap, subst, ◌∙◌, arith}
-use Rattle.std.specs.List.{range_with_len}
-use Rattle.std.proofs.lemmas.Bool.{cases_lt}
-use Rattle.std.proofs.lemmas.List.{length_push}
-use Rattle.std.proofs.lemmas.List.Elements.{All-append, All-cons, All-contains_itself, All-filter, All-head, All-nil, All-tail}
-use Rattle.std.proofs.lemmas.List.FromFn.{length-range_with_len}
-use Rattle.std.proofs.lemmas.List.Sums.{count_by-le-length, length-filter}
+use Rattle.std.proofs.lemmas.List.Elements.{All-contains_itself, All-filter, All-head}
 use Rattle.pack_model.specs.declared.item.Item.{Item}
 use Rattle.pack_model.specs.Problem.{Parts, IsProblem, sent_by}
-use Rattle.pack_model.proofs.ItemFacts.{small_items}
-use Rattle.pack_model.proofs.Laws.{tests}
-use Rattle.response_test.specs.declared.evidence.Evidence.{Evidence}
 use Rattle.class_frame.specs.Classes.{load_of}
-use Rattle.class_frame.specs.Grouping.{classes_of}
 use Rattle.class_frame.specs.Legal.{IsLegal}
-use Rattle.grouping_tree.specs.Partial.{IsPartial, keeps_legal, options_of}
+use Rattle.grouping_tree.specs.Partial.{IsPartial, options_of}
 use Rattle.grouping_tree.proofs.Fronts.{full-legal, legal-partial}
 use Rattle.grouping_tree.proofs.Puts.{options-legal, some_option}
-use Rattle.grouping_tree.proofs.Used.{classes_low, partial-none}
+use Rattle.grouping_tree.proofs.Used.{partial-none}
 use Rattle.cert_text.specs.Trees.{Plain, Plains, bound, fail, inner, left, more, none}
-use Rattle.cert_text.specs.Written.{PieceFits, TreeFits, TreesFit, number_of_trees}
-use Rattle.bandwidth_bound.specs.Bounds.{Reaches}
-use Rattle.bandwidth_bound.specs.Goals.{FailsIn, eighths, lemma_goal}
+use Rattle.cert_text.specs.Written.{TreeFits}
+use Rattle.bandwidth_bound.specs.Goals.{FailsIn, lemma_goal}
 use Rattle.bandwidth_bound.specs.Prices.{lower8_of}
-use Rattle.bandwidth_bound.specs.Trees.{EachStands, Goal, TreeStands, open_places, open_places_each}
+use Rattle.bandwidth_bound.specs.Trees.{EachStands, TreeStands}
 use Rattle.bandwidth_bound.proofs.Loads.{loads_fit}
 use Rattle.tree_search.specs.declared.finding.Finding.{Finding}
 use Rattle.tree_search.specs.declared.finding.Finding.TheVariants.{Bounded, Failed, Complete, Parted}
 use Rattle.tree_search.specs.declared.finding.Found.{Found}
 use Rattle.tree_search.specs.Count.{place_count}
-use Rattle.tree_search.specs.Open.{HasOptions, any_goal, any_open, has_open, lefts, nodes_in, nodes_of, put_first, put_first_in}
-use Rattle.tree_search.specs.Sound.{IsNoWorse, Shown, goal_of}
+use Rattle.tree_search.specs.Open.{any_open, has_open, lefts, nodes_in, nodes_of, put_first, put_first_in}
+use Rattle.tree_search.specs.Sound.{goal_of}
 use Rattle.tree_search.specs.Step.{Searched, Step, Steps, best_after, found_after, leaf_after}
 use Rattle.tree_search.specs.Trim.{reaches}
 use Rattle.tree_search.proofs.Counts.{is_trimmed, nodes-le_places, nodes-trim}
 use Rattle.tree_search.proofs.Firsts.{has_open-is, is_more}
-use Rattle.tree_search.proofs.Standing.{has_options, stands-closed, stands-trim, step-stands}
+use Rattle.tree_search.proofs.Standing.{has_options, stands-closed, stands-trim}
 use Rattle.search_judge.specs.Findings.{Finds}
+use Rattle.search_judge.proofs.Places.{closed_places, place_partial, tree_step}
 use Rattle.plan_search.specs.Searches.{IsSearch, IsTrimmedIn, begun_with, trimmed}
+use Rattle.plan_search.proofs.TreeFits.{few_in, small_in, standing_fits}
 
 -- ---- nodes
 
@@ -60,7 +52,8 @@ mutual
       → nodes_in (put_first_in u ts) ≡ nodes_in ts + nodes_of u
   nodes-put_in u none e = absurd cc
   nodes-put_in u (more t ts) e =
-      nodes-by_test (has_open t) u t (put_first u t) ts (put_first_in u ts) (nodes-put u t) (nodes-put_in u ts) e
+      nodes-by_test (has_open t) u t (put_first u t) ts (put_first_in u ts) (nodes-put u t)
+      (nodes-put_in u ts) e
 
 nodes-lefts : (n : ℕ) → nodes_in (lefts n) ≡ 0
 nodes-lefts zero = refl
@@ -73,101 +66,6 @@ leaf-node (Failed named) n = refl
 leaf-node (Complete load order) n = refl
 leaf-node Parted n = omega (arith, nodes-lefts n)
 
--- ---- the places of open leaves
-
-mutual
-  -- they are partial groupings
-  pub opens-legal : (items : List Item) (p : List ℕ) (t : Plain) → IsPartial items p → HasOptions items p t
-      → All (IsPartial items) (open_places items p t)
-  opens-legal items p (inner ts) h s =
-      opens-legal_each items p (options_of items p) ts (options-legal items p h) s.1
-  opens-legal items p bound h s = All-nil (IsPartial items)
-  opens-legal items p left h s = All-cons (IsPartial items) p [] h (All-nil (IsPartial items))
-  opens-legal items p (fail named) h s = All-nil (IsPartial items)
-
-  opens-legal_each : (items : List Item) (p ls : List ℕ) (ts : Plains)
-      → All (λ l. IsPartial items (p ++ l ∷ [])) ls → EachStands (any_goal items) p ls ts
-      → All (IsPartial items) (open_places_each items p ls ts)
-  opens-legal_each items p [] none h s = All-nil (IsPartial items)
-  opens-legal_each items p [] (more t ts) h s = absurd s
-  opens-legal_each items p (l ∷ ls) none h s = absurd s
-  opens-legal_each items p (l ∷ ls) (more t ts) h s =
-      All-append (IsPartial items) (open_places items (p ++ l ∷ []) t) (open_places_each items p ls ts)
-      (opens-legal items (p ++ l ∷ []) t (All-head (λ l. IsPartial items (p ++ l ∷ [])) l ls h) s.0)
-      (opens-legal_each items p ls ts (All-tail (λ l. IsPartial items (p ++ l ∷ [])) l ls h) s.1)
-
--- the place of the first open leaf of a tree is one
-pub first-legal : (items : List Item) (t : Plain) (place : List ℕ) (rest : List (List ℕ))
-    → HasOptions items [] t → open_places items [] t ≡ place ∷ rest → IsPartial items place
-first-legal items t place rest s e =
-    All-head (IsPartial items) place rest
-    (subst (All (IsPartial items)) e (opens-legal items [] t (partial-none items) s))
-
--- no place is open where no leaf is
-pub none-open : (g : Goal) (t : Plain) → TreeStands g [] t → has_open t ≡ false → open_places g.items [] t ≡ []
-none-open g t h closed = by (open_places g.items [] t) (sym (has_open-is g [] t h) ∙ closed)
-  where
-    by : (places : List (List ℕ)) → is_more places ≡ false → places ≡ []
-    by [] e = refl
-    by (p ∷ places) e = absurd cc
-
--- ---- the sizes of trees that stand
-
-number-is : (g : Goal) (p ls : List ℕ) (ts : Plains) → EachStands g p ls ts → number_of_trees ts ≡ length ls
-number-is g p [] none h = refl
-number-is g p [] (more t ts) h = absurd h
-number-is g p (l ∷ ls) none h = absurd h
-number-is g p (l ∷ ls) (more t ts) h = ap suc (number-is g p ls ts h.1)
-
-some-length : (xs : List ℕ) → (xs ≡ [] → ⊥) → 1 ≤ length xs
-some-length [] ne = absurd (ne refl)
-some-length (x ∷ xs) ne = omega arith
-
--- there is one option more than classes at most
-few-options : (items : List Item) (p : List ℕ) → length (options_of items p) ≤ classes_of p + 1
-few-options items p = by (nat_lt (length p) (length items))
-  where
-    all : List ℕ
-    all = range_with_len 0 (classes_of p + 1)
-
-    by : (b : Bool) → length (cond b (filter (keeps_legal items p) all) []) ≤ classes_of p + 1
-    by true =
-        omega (
-          arith,
-          length-filter (keeps_legal items p) all,
-          count_by-le-length (keeps_legal items p) all,
-          length-range_with_len 0 (classes_of p + 1),
-        )
-    by false = omega arith
-
--- over at most 128 items, each of at most 512 bits, a tree that stands has room in a text, where its fail leaves have
-module _ (g : Goal) (few : length g.items ≤ 128) (small : All (λ item. item.bits ≤ 512) g.items)
-    (fails : (p : List ℕ) (named : List (ℕ × Evidence)) → IsPartial g.items p → g.AreFailing p named
-    → (length named ≤ 128) × All PieceFits named) where
-  mutual
-    pub tree-fits : (p : List ℕ) (t : Plain) → IsPartial g.items p → TreeStands g p t → TreeFits (length p) t
-    tree-fits p (inner ts) h s =
-        let many = number-is g p (options_of g.items p) ts s.1 in (
-          omega (arith, s.0),
-          omega (arith, many, some-length (options_of g.items p) (some_option g.items p h s.0 small)),
-          omega (arith, many, s.0, few-options g.items p, classes_low g.items p h),
-          trees-fit p (options_of g.items p) ts (options-legal g.items p h) s.1,
-        )
-    tree-fits p bound h s = tt
-    tree-fits p left h s = tt
-    tree-fits p (fail named) h s = fails p named h s
-
-    trees-fit : (p ls : List ℕ) (ts : Plains) → All (λ l. IsPartial g.items (p ++ l ∷ [])) ls
-        → EachStands g p ls ts → TreesFit (suc (length p)) ts
-    trees-fit p [] none h s = tt
-    trees-fit p [] (more t ts) h s = absurd s
-    trees-fit p (l ∷ ls) none h s = absurd s
-    trees-fit p (l ∷ ls) (more t ts) h s = (
-      subst (λ depth. TreeFits depth t) (omega (arith, length_push p l))
-          (tree-fits (p ++ l ∷ []) t (All-head (λ l. IsPartial g.items (p ++ l ∷ [])) l ls h) s.0),
-      trees-fit p ls ts (All-tail (λ l. IsPartial g.items (p ++ l ∷ [])) l ls h) s.1,
-    )
-
 -- ---- the search over a sender's items
 
 module _ (problem : Parts) (stands : IsProblem problem) (sender : ℕ) where
@@ -177,49 +75,12 @@ module _ (problem : Parts) (stands : IsProblem problem) (sender : ℕ) where
   abbrev own8 : List ℕ → ℕ
   own8 = lower8_of problem [] own
 
-  own-few : length own ≤ 128
-  own-few =
-      omega (
-        arith,
-        length-filter (λ (item : Item). nat_eq item.sender sender) problem.items,
-        count_by-le-length (λ (item : Item). nat_eq item.sender sender) problem.items,
-        (tests problem stands).few_items,
-      )
-
-  own-small : All (λ item. item.bits ≤ 512) own
-  own-small =
-      All-filter (λ (item : Item). nat_eq item.sender sender) (λ (item : Item). item.bits ≤ 512) problem.items
-      (small_items problem stands)
-
   -- 8 times the load of a partial grouping fits 128 bits
   own-fits : (p : List ℕ) → IsPartial own p → 8 * load_of problem own p < 2 ^ 128
   own-fits p h =
       loads_fit problem stands own
       (All-filter (λ (item : Item). nat_eq item.sender sender) (Contains problem.items) problem.items
-      (All-contains_itself problem.items)) p h (omega (arith, h.within, own-few))
-
-  -- what is found at a partial grouping
-  abbrev FindsAt : Option ℕ → List ℕ → Finding → Type 0
-  FindsAt best p finding = Finds problem (Some sender) [] best p finding × IsPartial own p
-
-  no-worse : (best : Option ℕ) (load bound8 : ℕ) → (Reaches (eighths best) bound8 → ⊥) → 8 * load ≤ bound8
-      → IsNoWorse best (Some load)
-  no-worse None load bound8 not le = tt
-  no-worse (Some old) load bound8 not le = by (cases_lt old load)
-    where
-      by : (old < load) ⊎ (load ≤ old) → load ≤ old
-      by (inl lt) = absurd (not (omega arith))
-      by (inr low) = low
-
-  -- what is found shows what it says
-  sound : (best : Option ℕ) (p : List ℕ) (finding : Finding) → FindsAt best p finding
-      → Shown own own8 (FailsIn problem (Some sender)) best p finding
-  sound best p Bounded h = h.0
-  sound best p (Failed named) h = absurd h.0.1
-  sound best p (Complete load order) h =
-      let le : 8 * load ≤ own8 p = omega (arith, h.0.3, own-fits p h.1) in
-      (le, no-worse best load (own8 p) h.0.0 le)
-  sound best p Parted h = h.0.2
+      (All-contains_itself problem.items)) p h (omega (arith, h.within, few_in problem stands (Some sender)))
 
   -- the best load is that of the grouping found, which is legal
   abbrev pub IsOfBest : Option Found → Option ℕ → Type 0
@@ -233,28 +94,19 @@ module _ (problem : Parts) (stands : IsProblem problem) (sender : ℕ) where
     pub tree : TreeStands (goal_of own own8 (FailsIn problem (Some sender)) true x.best) [] x.tree
     pub found : IsOfBest x.found x.best
 
-  found-after : (finding : Finding) (p : List ℕ) (found : Option Found) (best : Option ℕ)
-      → FindsAt best p finding → IsOfBest found best
+  found-after : (finding : Finding) (p : List ℕ) (found : Option Found) (best : Option ℕ) → IsPartial own p
+      → Finds problem (Some sender) [] best p finding → IsOfBest found best
       → IsOfBest (found_after finding p found) (best_after finding best)
-  found-after Bounded p found best h is = is
-  found-after (Failed named) p found best h is = is
-  found-after (Complete load order) p found best h is = (refl, full-legal own p h.0.2 h.1, h.0.3)
-  found-after Parted p found best h is = is
+  found-after Bounded p found best h f is = is
+  found-after (Failed named) p found best h f is = is
+  found-after (Complete load order) p found best h f is = (refl, full-legal own p f.2 h, f.3)
+  found-after Parted p found best h f is = is
 
   sought-step : (n : ℕ) (x y : Searched) → Step (Finds problem (Some sender) []) own [] x y → Sought n x
       → Sought (n + 1) y
   sought-step n x y step at =
       let goal = goal_of own own8 (FailsIn problem (Some sender)) true x.best in
-      let legal = first-legal own x.tree step.place step.rest (has_options goal [] x.tree at.tree) step.first in
-      let finds : FindsAt x.best step.place step.finding = (step.finds, legal) in
-      let told : Step FindsAt own [] x y = record {
-        place = step.place;
-        rest = step.rest;
-        first = step.first;
-        finding = step.finding;
-        finds = finds;
-        is = step.is;
-      } in
+      let partial = place_partial problem stands (Some sender) [] [] (partial-none own) x y step at.tree in
       let leaf = leaf_after step.finding (length (options_of own step.place)) in
       let opens : has_open x.tree ≡ true = has_open-is goal [] x.tree at.tree ∙ ap is_more step.first in
       record {
@@ -265,9 +117,9 @@ module _ (problem : Parts) (stands : IsProblem problem) (sender : ℕ) where
           leaf-node step.finding (length (options_of own step.place)),
           at.nodes,
         );
-        tree = (step-stands own own8 (FailsIn problem (Some sender)) FindsAt [] sound x y told at.tree).0;
+        tree = tree_step problem stands (Some sender) [] [] (partial-none own) x y step at.tree;
         found = subst (λ (z : Searched). IsOfBest z.found z.best) (sym step.is)
-            (found-after step.finding step.place x.found x.best finds at.found);
+            (found-after step.finding step.place x.found x.best partial step.finds at.found);
       }
 
   sought-steps : (n : ℕ) (x y : Searched) → Steps (Finds problem (Some sender) []) own [] n x y → Sought 0 x
@@ -288,7 +140,8 @@ module _ (problem : Parts) (stands : IsProblem problem) (sender : ℕ) where
     no-tree : (p : List ℕ) (t : Plain) → IsPartial own p
         → TreeStands (goal_of own own8 (FailsIn problem (Some sender)) false None) p t → ⊥
     no-tree p (inner ts) h s =
-        no-trees p (options_of own p) ts (options-legal own p h) (some_option own p h s.0 own-small) s.1
+        no-trees p (options_of own p) ts (options-legal own p h) (some_option own p h s.0
+        (small_in problem stands (Some sender))) s.1
     no-tree p bound h s = s
     no-tree p left h s = absurd cc
     no-tree p (fail named) h s = s
@@ -321,12 +174,13 @@ module _ (problem : Parts) (stands : IsProblem problem) (sender : ℕ) where
         let tree : TreeStands goal [] end.tree =
         subst (λ b. TreeStands (goal_of own own8 (FailsIn problem (Some sender)) true b) [] end.tree) e
         (sought share end search).tree in
-        stands-closed goal [] end.tree (none-open goal end.tree tree closed) tree
+        stands-closed goal [] end.tree (closed_places goal [] end.tree tree closed) tree
 
     -- it has found a grouping
     pub has-found : end.found ≡ None → ⊥
     has-found e =
-        let is : IsOfBest None end.best = subst (λ f. IsOfBest f end.best) e (sought share end search).found in
+        let is : IsOfBest None end.best = subst (λ f. IsOfBest f end.best) e
+        (sought share end search).found in
         no-tree [] end.tree (partial-none own) (closed-tree None is)
 
     pub ended : (found : Found) → end.found ≡ Some found
@@ -338,18 +192,18 @@ module _ (problem : Parts) (stands : IsProblem problem) (sender : ℕ) where
         let cut = reaches own8 value in
         let goal = lemma_goal problem sender value in
         let tree = trimmed problem (Some sender) [] value end.tree in
-        let stands : TreeStands goal [] tree =
+        let it : TreeStands goal [] tree =
         stands-trim goal value refl [] end.tree (closed-tree (Some found.load) is.0) in
         let partial = legal-partial own found.labels is.1 in
         record {
           legal = is.1;
           small = omega (arith, is.2, own-fits found.labels partial);
-          tree_stands = stands;
+          tree_stands = it;
           is_trimmed = is_trimmed own cut [] end.tree;
           within = omega (arith, nodes-trim own cut [] end.tree, at.nodes, search.within);
           counted = omega (
             arith,
-            nodes-le_places own (length own) [] tree (omega arith) (has_options goal [] tree stands),
+            nodes-le_places own (length own) [] tree (omega arith) (has_options goal [] tree it),
           );
-          fits = tree-fits goal own-few own-small (λ p named h f. absurd f) [] tree (partial-none own) stands;
+          fits = standing_fits problem stands (Some sender) [] (Some value) false tree it;
         }

@@ -52,7 +52,8 @@ has_numbers : (frames : List Timed) (order : List ℕ) (place bit hyper : ℕ) (
     → Refuted frames order place bit hyper evidence → HasNumbers evidence
 has_numbers frames order place bit hyper Over h = tt
 has_numbers frames order place bit hyper (Long chain) h = h.is_chain.some
-has_numbers frames order place bit hyper (Late instance busy queue) h = (h.busy_chain.some, h.queue_chain.some)
+has_numbers frames order place bit hyper (Late instance busy queue) h =
+    (h.busy_chain.some, h.queue_chain.some)
 
 -- refuted frames, of which there are few, have a line each
 pub pieces_fit : (frames : List Timed) (bit hyper : ℕ) (named : List (ℕ × Evidence)) → length frames ≤ 128
@@ -110,7 +111,8 @@ module _ (g : Goal) (few : length g.items ≤ 128) (small : All (λ item. item.b
   mutual
     tree_fits : (p : List ℕ) (t : Plain) → IsPartial g.items p → TreeStands g p t → TreeFits (length p) t
     tree_fits p (inner ts) partial h =
-        let many : number_of_trees ts ≡ length (options_of g.items p) = as_many g p (options_of g.items p) ts h.1 in (
+        let many : number_of_trees ts ≡ length (options_of g.items p) =
+        as_many g p (options_of g.items p) ts h.1 in (
           omega (arith, h.0, few),
           omega (arith, many, some_length (options_of g.items p) (some_option g.items p partial h.0 small)),
           omega (arith, many, few_options g.items p partial h.0 few),
@@ -133,7 +135,7 @@ module _ (g : Goal) (few : length g.items ≤ 128) (small : All (λ item. item.b
 
 module _ (problem : Parts) (stands : IsProblem problem) where
   -- the items of a range are few, and none is large
-  few_in : (range : Option ℕ) → length (items_in problem.items range) ≤ 128
+  pub few_in : (range : Option ℕ) → length (items_in problem.items range) ≤ 128
   few_in None = (tests problem stands).few_items
   few_in (Some sender) = omega (
     arith,
@@ -142,9 +144,10 @@ module _ (problem : Parts) (stands : IsProblem problem) where
     count_by-le-length (λ item. nat_eq item.sender sender) problem.items,
   )
 
-  small_in : (range : Option ℕ) → All (λ item. item.bits ≤ 512) (items_in problem.items range)
+  pub small_in : (range : Option ℕ) → All (λ item. item.bits ≤ 512) (items_in problem.items range)
   small_in None = small_items problem stands
-  small_in (Some sender) = All-filter (λ item. nat_eq item.sender sender) (λ (item : Item). item.bits ≤ 512) problem.items (small_items problem stands)
+  small_in (Some sender) = All-filter (λ item. nat_eq item.sender sender)
+      (λ (item : Item). item.bits ≤ 512) problem.items (small_items problem stands)
 
   fails_in : (range : Option ℕ) (p : List ℕ) (named : List (ℕ × Evidence))
       → IsPartial (items_in problem.items range) p → FailsIn problem range p named
@@ -156,7 +159,8 @@ module _ (problem : Parts) (stands : IsProblem problem) where
       few : length (frames_of_classes problem problem.items p) ≤ 128
       few = omega (
         arith,
-        length-map-range_with_len (λ label. timed_of_items problem (class_of label p problem.items)) 0 (classes_of p),
+        length-map-range_with_len (λ label. timed_of_items problem (class_of label p problem.items)) 0
+            (classes_of p),
         classes_low problem.items p partial,
         partial.within,
         (tests problem stands).few_items,
@@ -167,5 +171,6 @@ module _ (problem : Parts) (stands : IsProblem problem) where
   pub standing_fits : (range : Option ℕ) (values : List ℕ) (value : Option ℕ) (may_leave : Bool) (t : Plain)
       → TreeStands (range_goal problem range values value may_leave) [] t → TreeFits zero t
   standing_fits range values value may_leave t h =
-      tree_fits (range_goal problem range values value may_leave) (few_in range) (small_in range) (fails_in range) [] t
+      tree_fits (range_goal problem range values value may_leave) (few_in range) (small_in range)
+      (fails_in range) [] t
       (partial-none (items_in problem.items range)) h

@@ -32,7 +32,8 @@ increasing-push xs x up low k lt = by (cases_lt (k + 1) (length xs))
     within : k + 1 ≤ length xs
     within = omega (arith, lt, length-append xs (x ∷ []))
 
-    by : (k + 1 < length xs) ⊎ (length xs ≤ k + 1) → get_or (xs ++ x ∷ []) k 0 < get_or (xs ++ x ∷ []) (k + 1) 0
+    by : (k + 1 < length xs) ⊎ (length xs ≤ k + 1)
+        → get_or (xs ++ x ∷ []) k 0 < get_or (xs ++ x ∷ []) (k + 1) 0
     by (inl inside) =
         omega (
           arith,
@@ -56,7 +57,8 @@ nodes-push lemmas lemma =
     sum_by-append (λ (one : LemmaOf Plain). nodes_of one.tree) lemmas (lemma ∷ [])
     ∙ omega (arith, sum_by-cons (λ (one : LemmaOf Plain). nodes_of one.tree) lemma [])
 
-places-more : (problem : Parts) (n : ℕ) → places_of_first problem (n + 1) ≡ places_of_first problem n + places_of problem n
+places-more : (problem : Parts) (n : ℕ) → places_of_first problem (n + 1)
+    ≡ places_of_first problem n + places_of problem n
 places-more problem n =
     let e : 0 + n ≡ n = omega arith in
     ap (sum_by (places_of problem)) (range-split 0 n 1)
@@ -75,7 +77,8 @@ senders-few problem stands =
 -- ---- turns
 
 module _ (problem : Parts) (stands : IsProblem problem) (branches : ℕ) where
-  -- after the turns of the first senders: their lemmas stand, trimmed, within the branches spent, and where each search
+  -- after the turns of the first senders: their lemmas stand, trimmed, within the branches spent, and where
+  -- each search
   -- ended each grouping is a legal one of its sender's items
   pub record TurnsStand (n : ℕ) (turns : Turns) : Type 0 where
     pub nodes : turns.left + nodes_of_lemmas turns.lemmas ≡ branches
@@ -107,7 +110,8 @@ module _ (problem : Parts) (stands : IsProblem problem) (branches : ℕ) where
   spent-stand n turns at = record {
     nodes = at.nodes;
     ascending = at.ascending;
-    below = All-weaker (λ (lemma : LemmaOf Plain). lemma.sender < n) (λ (lemma : LemmaOf Plain). lemma.sender < n + 1)
+    below = All-weaker (λ (lemma : LemmaOf Plain). lemma.sender < n)
+        (λ (lemma : LemmaOf Plain). lemma.sender < n + 1)
         (λ lemma lt. omega arith) turns.lemmas at.below;
     each = at.each;
     are_trimmed = at.are_trimmed;
@@ -120,7 +124,8 @@ module _ (problem : Parts) (stands : IsProblem problem) (branches : ℕ) where
   -- a turn that gives a lemma and a grouping
   ended-stand : (n share : ℕ) (turns : Turns) (lemma : LemmaOf Plain) (load : ℕ) (labels : List ℕ)
       → n < length problem.senders → TurnsStand n turns
-      → lemma.sender ≡ n → LemmaStands problem lemma → LemmaIsTrimmed problem lemma → nodes_of lemma.tree ≤ turns.left
+      → lemma.sender ≡ n → LemmaStands problem lemma → LemmaIsTrimmed problem lemma
+      → nodes_of lemma.tree ≤ turns.left
       → nodes_of lemma.tree ≤ places_of problem n → TreeFits 0 lemma.tree
       → IsLegal (sent_by problem.items n) labels → TurnsStand (n + 1) (after_turn turns lemma labels)
   ended-stand n share turns lemma load labels lt at own here trimmed within counted fit legal =
@@ -128,9 +133,11 @@ module _ (problem : Parts) (stands : IsProblem problem) (branches : ℕ) where
         nodes = omega (arith, at.nodes, within, nodes-push turns.lemmas lemma);
         ascending = subst IsStrictlyIncreasing
             (sym (map-append (λ (one : LemmaOf Plain). one.sender) turns.lemmas (lemma ∷ [])))
-            (increasing-push (map (λ (one : LemmaOf Plain). one.sender) turns.lemmas) lemma.sender at.ascending
+            (increasing-push (map (λ (one : LemmaOf Plain). one.sender) turns.lemmas) lemma.sender
+            at.ascending
             (All-map (λ y. y < lemma.sender) (λ (one : LemmaOf Plain). one.sender) turns.lemmas
-            (All-weaker (λ (one : LemmaOf Plain). one.sender < n) (λ (one : LemmaOf Plain). one.sender < lemma.sender)
+            (All-weaker (λ (one : LemmaOf Plain). one.sender < n)
+            (λ (one : LemmaOf Plain). one.sender < lemma.sender)
             (λ one low. omega (arith, own)) turns.lemmas at.below)));
         below = All-push (λ (one : LemmaOf Plain). one.sender < n + 1) turns.lemmas lemma before.below
             (omega (arith, own));
@@ -154,7 +161,8 @@ module _ (problem : Parts) (stands : IsProblem problem) (branches : ℕ) where
           let is : labels ≡ get_or (turns.groupings ++ labels ∷ []) s [] =
           sym (get_or-append-add turns.groupings (labels ∷ []) 0 [])
           ∙ ap (λ m. get_or (turns.groupings ++ labels ∷ []) m []) e in
-          subst (IsLegal (sent_by problem.items s)) is (subst (λ m. IsLegal (sent_by problem.items m) labels) same legal)
+          subst (IsLegal (sent_by problem.items s)) is (subst
+          (λ m. IsLegal (sent_by problem.items m) labels) same legal)
 
   turn-stands : (n : ℕ) (before after : Turns) → n < length problem.senders → TurnsStand n before
       → IsTurn problem n before after → TurnsStand (n + 1) after
@@ -172,8 +180,10 @@ module _ (problem : Parts) (stands : IsProblem problem) (branches : ℕ) where
           let it : Ended problem stands n share found lemma.tree =
           ended problem stands n share turn.end turn.search closed found one.1 in
           subst (TurnsStand (n + 1)) (sym one.2)
-          (ended-stand n share before lemma found.load found.labels lt at refl (lt, it.tree_stands) it.is_trimmed
-          (omega (arith, it.within, share-le before.left (length problem.senders - n))) it.counted it.fits it.legal)
+          (ended-stand n share before lemma found.load found.labels lt at refl
+          (lt, it.tree_stands) it.is_trimmed
+          (omega (arith, it.within, share-le before.left (length problem.senders - n))) it.counted it.fits
+          it.legal)
 
   -- the turns of the first senders stand
   pub turns-stand : (n : ℕ) (turns : Turns) → n ≤ length problem.senders → AreTurns problem branches n turns

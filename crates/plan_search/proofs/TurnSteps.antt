@@ -13,7 +13,8 @@ use Rattle.plan_search.specs.Takes.{Gives, IsSpent, Took}
 use Rattle.plan_search.proofs.Sought.{ended}
 
 -- where a sender has a turn, each has one
-pub count-is : (problem : Parts) (n : ℕ) → n < turn_count problem → turn_count problem ≡ length problem.senders
+pub count-is : (problem : Parts) (n : ℕ) → n < turn_count problem → turn_count problem
+    ≡ length problem.senders
 count-is problem n = by (has_turns problem)
   where
     by : (b : Bool) → n < cond b (length problem.senders) 0
@@ -30,7 +31,8 @@ count-le problem = by (has_turns problem)
     by false = omega arith
 
 -- the tree that a search within its share gives has no more nodes
-pub turn-fits : (problem : Parts) (stands : IsProblem problem) (n share : ℕ) (given : Option Ended) (one : Ended)
+pub turn-fits : (problem : Parts) (stands : IsProblem problem) (n share : ℕ) (given : Option Ended)
+    (one : Ended)
     → IsSpent problem n share given → given ≡ Some one → nodes_of (plain_of one.lemma.tree) ≤ share
 turn-fits problem stands n share given one spent is =
     let it : IsSpent problem n share (Some one) = subst (IsSpent problem n share) is spent in

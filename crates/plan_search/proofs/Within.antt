@@ -1,4 +1,5 @@
--- Where the branches are spent, the trees have exactly so many nodes, and fewer than there are partial groupings.
+-- Where the branches are spent, the trees have exactly so many nodes, and fewer than there are partial
+-- groupings.
 use Rattle.std.proofs.Common.{◌≡◌, ℕ, zero, suc, ◌+◌, ◌<◌, ◌≤◌, ◌⊎◌, inl, inr, List, [], ◌∷◌, length, get_or, map, All, sum_by, Option, None, Some, true, false, ap, subst, add-one, arith}
 use Rattle.std.specs.List.{range_with_len}
 use Rattle.std.specs.List.Sorted.{IsStrictlyIncreasing}
@@ -35,7 +36,8 @@ tail_rises x xs rises k lt =
     rw (add-one k) (rw (add-one (suc k)) at step)
 
 climbs : (high low : ℕ) (lemmas : List (LemmaOf Plain)) → low ≤ get_or (map (λ l. l.sender) lemmas) 0 low
-    → IsStrictlyIncreasing (map (λ l. l.sender) lemmas) → All (λ l. l.sender < high) lemmas → Climb high low lemmas
+    → IsStrictlyIncreasing (map (λ l. l.sender) lemmas) → All (λ l. l.sender < high) lemmas
+    → Climb high low lemmas
 climbs high low [] at rises below = tt
 climbs high low (l ∷ []) at rises below = (at, All-head (λ m. m.sender < high) l [] below, tt)
 climbs high low (l ∷ m ∷ lemmas) at rises below =
@@ -48,15 +50,19 @@ climbs high low (l ∷ m ∷ lemmas) at rises below =
     )
 
 -- a sum over them is at most one over all senders
-sum_below : (f : ℕ → ℕ) (high n low : ℕ) (lemmas : List (LemmaOf Plain)) → low + n ≡ high → Climb high low lemmas
-    → All (λ l. nodes_of l.tree ≤ f l.sender) lemmas → nodes_of_lemmas lemmas ≤ sum_by f (range_with_len low n)
+sum_below : (f : ℕ → ℕ) (high n low : ℕ) (lemmas : List (LemmaOf Plain)) → low + n ≡ high
+    → Climb high low lemmas
+    → All (λ l. nodes_of l.tree ≤ f l.sender) lemmas
+    → nodes_of_lemmas lemmas ≤ sum_by f (range_with_len low n)
 sum_below f high n low [] e climb each = omega arith
 sum_below f high zero low (l ∷ lemmas) e climb each = absurd (omega (arith, climb.0, climb.1))
-sum_below f high (suc n) low (l ∷ lemmas) e climb each = by (cases_lt low l.sender) (sum_below f high n (low + 1))
+sum_below f high (suc n) low (l ∷ lemmas) e climb each =
+    by (cases_lt low l.sender) (sum_below f high n (low + 1))
   where
     by : (low < l.sender) ⊎ (l.sender ≤ low)
         → ((ls : List (LemmaOf Plain)) → low + 1 + n ≡ high → Climb high (low + 1) ls
-        → All (λ l. nodes_of l.tree ≤ f l.sender) ls → nodes_of_lemmas ls ≤ sum_by f (range_with_len (low + 1) n))
+        → All (λ l. nodes_of l.tree ≤ f l.sender) ls → nodes_of_lemmas ls ≤ sum_by f
+        (range_with_len (low + 1) n))
         → nodes_of_lemmas (l ∷ lemmas) ≤ sum_by f (range_with_len low (suc n))
     by (inl later) below =
         omega (
@@ -94,7 +100,8 @@ module _ (problem : Parts) (lemmas : List (LemmaOf Plain)) (stand : LemmasStand 
         arith,
         nodes-le_places (sent_by problem.items lemma.sender) (length (sent_by problem.items lemma.sender)) []
             lemma.tree (omega arith)
-            (has_options (lemma_goal problem lemma.sender lemma.value) [] lemma.tree (stand.each k d inside).1),
+            (has_options (lemma_goal problem lemma.sender lemma.value) [] lemma.tree
+            (stand.each k d inside).1),
       ))
 
   -- a main tree with an open leaf has fewer than there are partial groupings of all items

@@ -1,4 +1,5 @@
--- How a plan begins: a lemma for each sender whose search ends within its share, and the first best grouping. The
+-- How a plan begins: a lemma for each sender whose search ends within its share, and the first best grouping.
+-- The
 -- project's own.
 use Rattle.std.specs.Prelude.{ℕ, zero, suc, ◌≡◌, ◌+◌, ◌-◌, ◌*◌, ◌/◌, Bool, true, false, ◌&&◌, List, [], ◌∷◌, ◌++◌, length, map, nat_eq, nat_le, nat_lt, Option, Some, None, cond}
 use Rattle.pack_model.specs.Problem.{Parts}
@@ -6,7 +7,6 @@ use Rattle.response_test.specs.Order.{OrderPasses}
 use Rattle.priority_assign.specs.Lowest.{IsLowestFirst}
 use Rattle.class_frame.specs.Classes.{load_of}
 use Rattle.class_frame.specs.Grouping.{classes_of}
-use Rattle.class_frame.specs.Legal.{IsLegal}
 use Rattle.cert_text.specs.Parts.{LemmaOf}
 use Rattle.cert_text.specs.Trees.{Plain}
 use Rattle.bandwidth_bound.specs.Solvable.{Solvable}
@@ -17,7 +17,8 @@ use Rattle.tree_search.specs.Step.{Searched}
 use Rattle.plan_search.specs.Alone.{labels_alone}
 use Rattle.plan_search.specs.Searches.{IsSearch, trimmed}
 
--- What the turns of senders leave: the branches left, the lemmas, and the groupings of the senders whose search
+-- What the turns of senders leave: the branches left, the lemmas, and the groupings of the senders whose
+-- search
 -- ended.
 pub record Turns : Type 0 where
   pub left : ℕ
@@ -69,7 +70,8 @@ AreTurns problem branches (suc sender) after =
 abbrev pub has_turns : Parts → Bool
 has_turns problem = nat_le 2 (length problem.senders)
 
--- the groupings of senders put together: each one's labels follow those of the ones before, of which there are
+-- the groupings of senders put together: each one's labels follow those of the ones before, of which there
+-- are
 -- so many
 abbrev pub put_together : ℕ → List (List ℕ) → List ℕ
 put_together classes [] = []
@@ -117,14 +119,6 @@ pub record IsFirst (problem : Parts) (turns : Turns) (first : Option Found) : Ty
   pub together_is : IsTimedIf problem (grouping_by_sender problem turns) together
   pub alone_is : IsTimed problem (labels_alone problem) alone
   pub first_is : first ≡ better_of together alone
-
--- a legal grouping of all items with the order of lowest-priority-first assignment, in which each frame passes, and
--- its load
-pub record FoundStands (problem : Parts) (found : Found) : Type 0 where
-  pub legal : IsLegal problem.items found.labels
-  pub lowest_first : IsLowestFirst (frames_at problem found.labels) problem.network.nominal_ticks 0 found.order
-  pub passes : OrderPasses (frames_at problem found.labels) problem.network.nominal_ticks found.order
-  pub load_is : found.load ≡ load_of problem problem.items found.labels
 
 -- how many senders have a turn
 abbrev pub turn_count : Parts → ℕ

@@ -1,5 +1,6 @@
 -- The plan of a final tree.
-use Rattle.std.specs.Prelude.{ℕ, ◌≡◌, ◌*◌, Bool, true, false, List, [], Option, None, Some, IfSome}
+use Rattle.std.specs.Prelude.{ℕ, ◌≡◌, ◌*◌, Bool, true, false, List, [], map, min, Option, None, Some, IfSome}
+use Rattle.std.specs.Option.{unwrap_or}
 use Rattle.pack_model.specs.Problem.{Parts}
 use Rattle.matrix_rows.specs.declared.matrix.MatrixRow.{MatrixRow}
 use Rattle.cert_text.specs.declared.parts.FrameLine.{FrameLine}
@@ -7,14 +8,17 @@ use Rattle.cert_text.specs.declared.parts.Kind.TheVariants.{KindBest}
 use Rattle.cert_text.specs.Parts.{LemmaOf}
 use Rattle.cert_text.specs.PlainTree.{plain_of}
 use Rattle.cert_text.specs.Trees.{Plain}
+use Rattle.bandwidth_bound.specs.declared.verdict.Verdict.{Verdict}
+use Rattle.bandwidth_bound.specs.declared.verdict.Verdict.TheVariants as verdict
 use Rattle.bandwidth_bound.specs.Goals.{main_goal}
-use Rattle.bandwidth_bound.specs.Trees.{TreeStands}
+use Rattle.bandwidth_bound.specs.Prices.{lower8_of}
+use Rattle.bandwidth_bound.specs.Trees.{TreeStands, open_places}
 use Rattle.tree_search.specs.declared.finding.Found.{Found}
 use Rattle.tree_search.specs.declared.node.Node.{Node}
 use Rattle.tree_search.specs.declared.node.Node.TheVariants.{Inner, Bound, Left, Fail}
-use Rattle.tree_search.specs.Open.{has_open, nodes_of}
+use Rattle.tree_search.specs.Open.{has_open, least_of, nodes_of}
 use Rattle.tree_search.specs.Step.{Searched}
-use Rattle.plan_search.specs.Begin.{FoundStands}
+use Rattle.search_judge.specs.Findings.{FoundStands}
 use Rattle.plan_search.specs.declared.planned.Planned.{Planned}
 use Rattle.plan_search.specs.declared.planned.Planned.TheVariants as planned
 use Rattle.plan_search.specs.declared.searching.Ended.{Ended}
@@ -50,6 +54,20 @@ pub record IsEnded (problem : Parts) (values : List ℕ) (first : Option Found) 
   pub is_open : has_open end.tree ≡ ended.is_open
   pub tree : plain_of ended.tree ≡ final_tree problem values (load_found ended.best) ended.is_open end.tree
   pub nodes : nodes_of end.tree ≡ search.made
+  pub least : ended.least
+      ≡ least_of (map (lower8_of problem values problem.items) (open_places problem.items [] end.tree))
+
+-- the lower bound that is shown where branches are spent, from the best load and the least bound at the open
+-- leaves, in eighths of ticks a common period
+abbrev pub lower_with : Option ℕ → ℕ → ℕ
+lower_with None least = least
+lower_with (Some load) least = min least (8 * load)
+
+-- the verdict of a plan, from the best load, whether a leaf is open, and the least bound at the open leaves
+abbrev pub verdict_with : Option ℕ → Bool → Option ℕ → Verdict
+verdict_with best true least = verdict.Between best (lower_with best (unwrap_or least 0))
+verdict_with None false least = verdict.NoSolution
+verdict_with (Some load) false least = verdict.Best load
 
 -- the node is an open leaf
 abbrev pub is_left : Node → Bool

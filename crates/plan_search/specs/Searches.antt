@@ -12,11 +12,13 @@ use Rattle.tree_search.specs.Open.{has_open, nodes_of}
 use Rattle.tree_search.specs.Step.{Searched, Steps}
 use Rattle.tree_search.specs.Trim.{IsTrimmed, reaches, trim}
 
--- a search that has an open leaf at the empty grouping and has found nothing, with a best load, if there is one
+-- a search that has an open leaf at the empty grouping and has found nothing, with a best load, if there is
+-- one
 abbrev pub begun_with : Option ℕ → Searched
 begun_with best = record { tree = left; best = best; found = None }
 
--- the search over the groupings of all items, or of one sender's, by bounds with the values of lemmas: within a
+-- the search over the groupings of all items, or of one sender's, by bounds with the values of lemmas: within
+-- a
 -- budget of steps, and fewer only where no leaf is open then
 pub record IsSearch (problem : Parts) (range : Option ℕ) (values : List ℕ) (best : Option ℕ) (budget : ℕ)
     (end : Searched) : Type 0 where
@@ -28,7 +30,8 @@ pub record IsSearch (problem : Parts) (range : Option ℕ) (values : List ℕ) (
 -- the tree over the groupings of a range, trimmed where the bound reaches a value
 abbrev pub trimmed : Parts → Option ℕ → List ℕ → ℕ → Plain → Plain
 trimmed problem range values value tree =
-    trim (items_in problem.items range) (reaches (lower8_of problem values (items_in problem.items range)) value)
+    trim (items_in problem.items range) (reaches (lower8_of problem values (items_in problem.items range))
+    value)
     [] tree
 
 -- no inner node of a tree over the groupings of a range has a bound that reaches a value

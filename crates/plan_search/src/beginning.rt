@@ -3,7 +3,8 @@ ghost use Rattle.std.specs.Prelude.{◌≡◌, ◌+◌, ◌≤◌, ◌<◌, All,
 ghost use Rattle.cert_text.specs.PlainTree.{plain_lemma};
 ghost use Rattle.cert_text.specs.Written.{LemmaFits};
 ghost use Rattle.bandwidth_bound.specs.Lemmas.{LemmasStand, values_of};
-ghost use Rattle.plan_search.specs.Begin.{Begins, FoundStands};
+ghost use Rattle.search_judge.specs.Findings.{FoundStands};
+ghost use Rattle.plan_search.specs.Begin.{Begins};
 ghost use Rattle.plan_search.specs.Searches.{LemmaIsTrimmed, nodes_of_lemmas, places_of_first};
 
 use crate::first::first_best;
@@ -28,7 +29,11 @@ pub struct Begun {
 
 /// The values of lemmas by sender, in eighths of ticks a common period, 0 where there is none. The only error
 /// is want of memory.
-fn lemma_values(alloc: Global, problem: &Problem, lemmas: &[Lemma]) -> Result<Values, Memory>
+pub(crate) fn lemma_values(
+    alloc: Global,
+    problem: &Problem,
+    lemmas: &[Lemma],
+) -> Result<Values, Memory>
     requires { All (λ lemma. lemma.sender < length problem.now.senders) lemmas.now }
     ensures { IfOk result (λ values. values ≡ values_of problem.now (map plain_lemma lemmas.now)) }
 {

@@ -1,27 +1,28 @@
 //! The end of a plan whose main tree is given.
-ghost use Rattle.std.specs.Prelude.{◌≡◌, ◌*◌, ◌^◌, ◌<◌, true, [], ℕ, List, All, IfOk, IfSome, length, map};
+ghost use Rattle.std.specs.Prelude.{◌≡◌, ◌*◌, ◌^◌, ◌<◌, true, [], All, IfOk, IfSome, length, map};
 ghost use Rattle.std.specs.List.{list_any};
 ghost use Rattle.cert_text.specs.PlainTree.{plain_lemma, plain_of};
 ghost use Rattle.cert_text.specs.Trees.{Plain};
 ghost use Rattle.cert_text.specs.Written.{CertFits};
 ghost use Rattle.bandwidth_bound.specs.Goals.{main_goal};
-ghost use Rattle.bandwidth_bound.specs.Lemmas.{LemmasStand, value_of, values_of};
+ghost use Rattle.bandwidth_bound.specs.Lemmas.{LemmasStand, values_of};
 ghost use Rattle.bandwidth_bound.specs.Rule.{Accepts};
 ghost use Rattle.bandwidth_bound.specs.Trees.{TreeStands};
 ghost use Rattle.tree_search.specs.Flat.{flat};
 ghost use Rattle.tree_search.specs.Open.{HasOptions};
-ghost use Rattle.plan_search.specs.Begin.{FoundStands};
+ghost use Rattle.search_judge.specs.Findings.{FoundStands};
 ghost use Rattle.plan_search.specs.Ending.{final_tree, is_left};
 ghost use Rattle.plan_search.specs.Plan.{Ends, IsTrimmedPlan, cert_of_plan, judged_plan, load_found, verdict_of_plan};
 ghost use Rattle.plan_search.specs.Searches.{trimmed, LemmaIsTrimmed};
 
+use crate::beginning::lemma_values;
 use crate::ending::end;
 use crate::planned::Planned;
-use crate::searching::{load_found, problem_stands};
+use crate::searching::load_found;
 use cert_text::{Lemma, Tree};
 use grouping_tree::Partial;
 use pack_model::{Memory, Problem};
-use search_judge::SearchJudge;
+use search_judge::{SearchJudge, problem_stands};
 use std::alloc::Global;
 use tree_search::{Found, Node, flatten, tree_of, trim};
 
@@ -45,29 +46,6 @@ fn any_left(nodes: &[Node]) -> bool
         }
     }
     false
-}
-
-/// The value of the lemma of a sender, in eighths of ticks a common period; 0 where there is none.
-fn value_of(lemmas: &[Lemma], sender: u32) -> u128
-    ensures { result ≡ value_of (map plain_lemma lemmas.now) sender }
-{
-    for lemma in lemmas {
-        if lemma.sender == sender {
-            return lemma.value;
-        }
-    }
-    0
-}
-
-/// The values of lemmas by sender, in eighths of ticks a common period. The only error is want of memory.
-fn values_of(alloc: Global, problem: &Problem, lemmas: &[Lemma]) -> Result<Vec<u128>, Memory>
-    ensures { IfOk result (λ values. values.items ≡ values_of problem.now (map plain_lemma lemmas.now)) }
-{
-    let mut values = Vec::new(alloc);
-    for sender in 0..problem.senders().len() as u32 {
-        values.push(value_of(lemmas, sender))?;
-    }
-    Ok(values)
 }
 
 /// The nodes of a tree over all items, trimmed where the lower bound with the values of lemmas reaches 8
@@ -100,6 +78,7 @@ fn final_nodes(
     nodes: Vec<Node>,
     is_open: bool,
 ) -> Result<Vec<Node>, Memory>
+    requires lemmas { All (λ lemma. lemma.sender < length problem.now.senders) lemmas.now }
     requires low { IfSome best (λ load. 8 * load < 2 ^ 128) }
     requires tree { (t : Plain) × (flat t ≡ nodes.items) × HasOptions problem.now.items [] t }
     ensures { IfOk result (λ kept. (t : Plain) → flat t ≡ nodes.items → HasOptions problem.now.items [] t
@@ -108,8 +87,8 @@ fn final_nodes(
 {
     match best {
         Some(load) if !is_open => {
-            let values = values_of(alloc, problem, lemmas)?;
-            let kept = trimmed_nodes(alloc, problem, &values, load, nodes)?;
+            let values = lemma_values(alloc, problem, lemmas)?;
+            let kept = trimmed_nodes(alloc, problem, values.as_slice(), load, nodes)?;
             Ok(kept)
         }
         _ => Ok(nodes),

@@ -24,5 +24,6 @@ pub use alone::{Alone, load_alone, plan_alone};
 pub use beginning::{Begun, begin};
 pub use finishing::finish;
 pub use laws::{plan_alone_is_one, plan_is_one};
-pub use planned::Planned;
-pub use planning::plan;
+pub use planned::{Planned, Told};
+pub use planning::{plan, plan_shown};
+pub use search_task::Task;

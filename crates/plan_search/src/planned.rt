@@ -1,4 +1,5 @@
 //! What is planned.
+use bandwidth_bound::Verdict;
 use cert_text::Cert;
 use matrix_text::Matrix;
 
@@ -12,4 +13,13 @@ pub enum Planned {
     /// The branches are spent: the best matrix so far, if there is one, and the certificate of the kind `open`,
     /// which shows a lower bound.
     Spent(Option<Matrix>, Cert),
+}
+
+/// What is planned, and the verdict that its certificate shows.
+#[derive(Debug, Drop)]
+pub struct Told {
+    /// The plan.
+    pub planned: Planned,
+    /// What its certificate shows.
+    pub verdict: Verdict,
 }

@@ -1,20 +1,22 @@
 //! The search over all items.
-ghost use Rattle.std.specs.Prelude.{◌≡◌, ◌*◌, ◌^◌, ◌<◌, [], List, None, IfOk, IfSome};
-ghost use Rattle.pack_model.specs.Problem.{IsProblem, IsSorted};
+ghost use Rattle.std.specs.Prelude.{◌≡◌, ◌*◌, ◌^◌, ◌<◌, [], List, None, map, IfOk, IfSome};
 ghost use Rattle.cert_text.specs.PlainTree.{plain_of};
+ghost use Rattle.bandwidth_bound.specs.Prices.{lower8_of};
+ghost use Rattle.bandwidth_bound.specs.Trees.{open_places};
+ghost use Rattle.tree_search.specs.Open.{least_of};
 ghost use Rattle.tree_search.specs.Shown.{IsAt, IsOf, items_of, start_of};
 ghost use Rattle.tree_search.specs.Step.{Searched};
 ghost use Rattle.search_judge.specs.Judges.{JudgesOver};
-ghost use Rattle.plan_search.specs.Begin.{FoundStands};
+ghost use Rattle.search_judge.specs.Findings.{FoundStands};
 ghost use Rattle.plan_search.specs.Ending.{IsEnded, final_tree};
 ghost use Rattle.plan_search.specs.Plan.{last_found, load_found};
 
 use cert_text::Tree;
 use grouping_tree::Partial;
 use pack_model::{Memory, Problem};
-use search_judge::SearchJudge;
+use search_judge::{SearchJudge, problem_stands};
 use std::alloc::Global;
-use tree_search::{Found, Search};
+use tree_search::{Found, Opened, Search};
 
 /// What a search over all items ended with.
 #[derive(Drop)]
@@ -25,14 +27,8 @@ pub(crate) struct Ended {
     pub is_open: bool,
     /// The tree, trimmed where no leaf is open and there is a best grouping.
     pub tree: Tree,
-}
-
-/// The problem stands, and its items are those of its signals.
-pub(crate) fn problem_stands(problem: &Problem)
-    ensures problem { IsProblem problem.now }
-    ensures sorted { IsSorted problem.now.signals problem.now.items }
-{
-    let _items = problem.items();
+    /// The least bound at its open leaves, in eighths of ticks a common period; none where no leaf is open.
+    pub least: Option<u128>,
 }
 
 /// The load of a grouping that may not be there.
@@ -55,31 +51,35 @@ fn last_found(found: Option<Found>, first: Option<Found>) -> Option<Found>
     }
 }
 
-/// The tree of a search over all items, trimmed where no leaf is open and there is a best load. The only
-/// error is want of memory.
+/// The tree of a search over all items, trimmed where no leaf is open and there is a best load, and the least
+/// bound at its open leaves. The only error is want of memory.
 fn final_tree(
     alloc: Global,
     judge: &SearchJudge,
     problem: &Problem,
     search: Search,
-) -> Result<Tree, Memory>
+) -> Result<Opened, Memory>
     requires search { IsOf problem.now search }
     requires suits { JudgesOver problem.now problem.now.items judge.now }
     requires items { items_of problem.now search ≡ problem.now.items }
     requires start { start_of search ≡ [] }
     requires tree { (x : Searched) × IsAt problem.now search x }
     requires low { IfSome search.best (λ load. 8 * load < 2 ^ 128) }
-    ensures { IfOk result (λ tree. (x : Searched) → IsAt problem.now search x
-        → plain_of tree ≡ final_tree problem.now judge.now.values.items search.best search.open x.tree) }
+    ensures tree { IfOk result (λ opened. (x : Searched) → IsAt problem.now search x
+        → plain_of opened.tree
+        ≡ final_tree problem.now judge.now.values.items search.best search.open x.tree) }
+    ensures least { IfOk result (λ opened. (x : Searched) → IsAt problem.now search x
+        → opened.least ≡ least_of (map (lower8_of problem.now judge.now.values.items problem.now.items)
+        (open_places problem.now.items [] x.tree))) }
 {
     match search.best() {
         Some(load) if !search.pending() => {
             let tree = search.into_trimmed(alloc, judge, problem, 8 * load)?;
-            Ok(tree)
+            Ok(Opened { tree, least: None })
         }
         _ => {
-            let tree = search.into_tree(alloc, problem)?;
-            Ok(tree)
+            let opened = search.into_tree(alloc, judge, problem)?;
+            Ok(opened)
         }
     }
 }
@@ -103,10 +103,11 @@ pub(crate) fn search_all(
     search.advance(&mut judge, problem, left)?;
     let best = last_found(search.take_found(), first);
     let is_open = search.pending();
-    let tree = final_tree(alloc, &judge, problem, search)?;
+    let Opened { tree, least } = final_tree(alloc, &judge, problem, search)?;
     Ok(Ended {
         best,
         is_open,
         tree,
+        least,
     })
 }

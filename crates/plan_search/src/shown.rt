@@ -1,6 +1,6 @@
 //! The matrix of a grouping in its order, and the lines that show it.
 ghost use Rattle.std.specs.Prelude.{IfOk};
-ghost use Rattle.plan_search.specs.Begin.{FoundStands};
+ghost use Rattle.search_judge.specs.Findings.{FoundStands};
 ghost use Rattle.plan_search.specs.Plan.{IsShownBy};
 
 use crate::lines::least_lines;

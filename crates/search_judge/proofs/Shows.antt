@@ -4,6 +4,8 @@ use Rattle.std.proofs.lemmas.Bool.{cases_lt}
 use Rattle.pack_model.specs.declared.item.Item.{Item}
 use Rattle.pack_model.specs.Problem.{Parts, IsProblem}
 use Rattle.response_test.specs.declared.evidence.Evidence.{Evidence}
+use Rattle.response_test.specs.Order.{OrderPasses}
+use Rattle.priority_assign.specs.Lowest.{IsLowestFirst}
 use Rattle.priority_assign.proofs.OneOrder.{one_order}
 use Rattle.priority_assign.proofs.Steps.{all_filled_passes}
 use Rattle.class_frame.specs.Classes.{load_of}
@@ -21,7 +23,7 @@ use Rattle.bandwidth_bound.proofs.PriceBound.{bound_is_exact}
 use Rattle.tree_search.specs.declared.finding.Finding.{Finding}
 use Rattle.tree_search.specs.declared.finding.Finding.TheVariants.{Bounded, Failed, Complete, Parted}
 use Rattle.tree_search.specs.Sound.{IsNoWorse, Shown}
-use Rattle.search_judge.specs.Findings.{CanPass, Finds, HasOrder, IsStuck, frames_at}
+use Rattle.search_judge.specs.Findings.{CanPass, Finds, FoundStands, HasOrder, IsStuck, frames_at}
 use Rattle.search_judge.proofs.Named.{AreGiven, named_refuted, none_passes, one_stuck_set}
 
 module _ (problem : Parts) (stands : IsProblem problem) where
@@ -84,15 +86,31 @@ stuck_cannot problem stands None p named partial stuck (order, passes) =
     named stuck order passes
 stuck_cannot problem stands (Some sender) p named partial stuck passes = stuck
 
--- an order of lowest-priority-first assignment lets each frame pass
+-- the order of lowest-priority-first assignment lets each frame pass
+pub lowest_passes : (problem : Parts) → IsProblem problem → (p order : List ℕ) → IsPartial problem.items p
+    → IsLowestFirst (frames_at problem p) problem.network.nominal_ticks 0 order
+    → OrderPasses (frames_at problem p) problem.network.nominal_ticks order
+lowest_passes problem stands p order partial lowest =
+    let given : AreGiven (frames_at problem p) problem.network.nominal_ticks = given_at problem stands p partial in
+    all_filled_passes (frames_at problem p) problem.network.nominal_ticks order
+    (record { in_range = given.in_range; some_bit = given.bit_is.some }) lowest.fills
+
+-- a complete grouping that is found stands
+pub complete_stands : (problem : Parts) → IsProblem problem → (values : List ℕ) (best : Option ℕ) (p : List ℕ)
+    (load : ℕ) (order : List ℕ) → IsPartial problem.items p → Finds problem None values best p (Complete load order)
+    → FoundStands problem (record { labels = p; order = order; load = load })
+complete_stands problem stands values best p load order partial h = record {
+  legal = full-legal problem.items p h.2 partial;
+  lowest_first = h.1;
+  passes = lowest_passes problem stands p order partial h.1;
+  load_is = h.3;
+}
+
+-- an order that is found lets each frame pass
 order_passes : (problem : Parts) → IsProblem problem → (range : Option ℕ) (p order : List ℕ)
     → IsPartial (items_in problem.items range) p → HasOrder problem range p order → CanPass problem range p
 order_passes problem stands None p order partial lowest =
-    let given : AreGiven (frames_at problem p) problem.network.nominal_ticks = given_at problem stands p partial in (
-      order,
-      all_filled_passes (frames_at problem p) problem.network.nominal_ticks order
-          (record { in_range = given.in_range; some_bit = given.bit_is.some }) lowest.fills,
-    )
+    (order, lowest_passes problem stands p order partial lowest)
 order_passes problem stands (Some sender) p order partial none = tt
 
 -- one set is stuck

@@ -6,6 +6,7 @@ use Rattle.response_test.specs.declared.evidence.Evidence.{Evidence}
 use Rattle.response_test.specs.Order.{OrderPasses}
 use Rattle.priority_assign.specs.Lowest.{IsLowestFirst}
 use Rattle.class_frame.specs.Classes.{frames_of_classes, load_of}
+use Rattle.class_frame.specs.Legal.{IsLegal}
 use Rattle.grouping_tree.specs.Grouped.{items_in}
 use Rattle.bandwidth_bound.specs.Bounds.{Reaches}
 use Rattle.bandwidth_bound.specs.Failing.{numbers_of}
@@ -13,6 +14,7 @@ use Rattle.bandwidth_bound.specs.Goals.{eighths}
 use Rattle.bandwidth_bound.specs.Prices.{lower8_of}
 use Rattle.tree_search.specs.declared.finding.Finding.{Finding}
 use Rattle.tree_search.specs.declared.finding.Finding.TheVariants.{Bounded, Failed, Complete, Parted}
+use Rattle.tree_search.specs.declared.finding.Found.{Found}
 use Rattle.search_judge.specs.Stuck.{HasEvidence}
 
 -- the frames that are named are those that lowest-priority-first assignment leaves without a place, ascending;
@@ -65,3 +67,11 @@ Finds problem range values best p (Complete load order) =
 Finds problem range values best p Parted =
     (¬ ReachesBest problem range values best p) × CanPass problem range p
     × (length p < length (items_in problem.items range))
+
+-- a legal grouping of all items with the order of lowest-priority-first assignment, in which each frame passes, and
+-- its load
+pub record FoundStands (problem : Parts) (found : Found) : Type 0 where
+  pub legal : IsLegal problem.items found.labels
+  pub lowest_first : IsLowestFirst (frames_at problem found.labels) problem.network.nominal_ticks 0 found.order
+  pub passes : OrderPasses (frames_at problem found.labels) problem.network.nominal_ticks found.order
+  pub load_is : found.load ≡ load_of problem problem.items found.labels

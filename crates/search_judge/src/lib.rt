@@ -12,4 +12,4 @@ mod stuck;
 mod tests;
 
 pub use judge::SearchJudge;
-pub use laws::{findings_show, one_is_found};
+pub use laws::{findings_show, one_is_found, problem_stands};

@@ -1,4 +1,1 @@
-pub mod Moves
-pub mod Steps
 pub mod Tasks
-pub mod Walks

@@ -1,3 +1,1 @@
 pub mod Task
-pub mod Turn
-pub mod Walks

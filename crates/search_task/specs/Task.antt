@@ -8,12 +8,13 @@ use Rattle.bandwidth_bound.specs.Trees.{TreeStands}
 use Rattle.tree_search.specs.Flat.{flat}
 use Rattle.tree_search.specs.Open.{has_open}
 use Rattle.tree_search.specs.Step.{Searched}
-use Rattle.plan_search.specs.Begin.{FoundStands}
+use Rattle.tree_search.specs.Walks.{EndsOpen}
+use Rattle.search_judge.specs.Findings.{FoundStands}
 use Rattle.search_task.specs.declared.task.Task.{Task}
-use Rattle.search_task.specs.Walks.{EndsOpen}
 
 -- a task belongs to a problem: its path is a partial grouping of all items, it has one lemma for each sender,
--- its tree stands at the path with its best load and lemmas, in preorder the nodes that are done come first, and
+-- its tree stands at the path with its best load and lemmas, in preorder the nodes that are done come first,
+-- and
 -- what it found is a legal grouping of all items with an order that passes and its load
 pub record IsTask (problem : Parts) (task : Task) : Type 0 where
   pub path_stands : IsPartial problem.items task.path.items

@@ -8,6 +8,5 @@ mod placing;
 mod task;
 #[cfg(test)]
 mod tests;
-mod turn;
 
 pub use task::Task;

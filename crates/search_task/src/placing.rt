@@ -1,6 +1,5 @@
 //! What a turn begins with.
 ghost use Rattle.std.specs.Prelude.{◌≡◌, IfOk};
-ghost use Rattle.pack_model.specs.Problem.{IsProblem, IsSorted};
 ghost use Rattle.grouping_tree.specs.Grouped.{Belongs, labels_of, range_of};
 ghost use Rattle.grouping_tree.specs.Partial.{IsPartial};
 ghost use Rattle.search_task.specs.Task.{lesser};
@@ -9,14 +8,6 @@ use grouping_tree::Partial;
 use pack_model::{Labels, Memory, Problem};
 use std::alloc::Global;
 use tree_search::Found;
-
-/// The problem stands, and its items are those of its signals.
-pub(crate) fn problem_stands(problem: &Problem)
-    ensures problem { IsProblem problem.now }
-    ensures sorted { IsSorted problem.now.signals problem.now.items }
-{
-    let _items = problem.items();
-}
 
 /// The partial grouping of all items with the labels of a path. The only error is want of memory.
 pub(crate) fn place(alloc: Global, problem: &Problem, path: &[u32]) -> Result<Partial, Memory>

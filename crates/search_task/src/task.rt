@@ -5,19 +5,19 @@ ghost use Rattle.cert_text.specs.Trees.{left};
 ghost use Rattle.grouping_tree.specs.Partial.{IsPartial};
 ghost use Rattle.pack_model.specs.Problem.{Parts};
 ghost use Rattle.search_judge.specs.Findings.{Finds};
+ghost use Rattle.search_judge.specs.Judges.{JudgesOver};
 ghost use Rattle.tree_search.specs.Open.{has_open};
+ghost use Rattle.tree_search.specs.Shown.{IsAt, IsOf, items_of, start_of};
 ghost use Rattle.tree_search.specs.Step.{Searched, Steps};
 ghost use Rattle.search_task.specs.Task.{IsTask, lesser, search_of, taken_over};
-ghost use Rattle.search_task.specs.Turn.{IsAt, IsOf, items_of, start_of};
 
-use crate::placing::{copy_of, lesser, place, problem_stands};
-use crate::turn::Turn;
+use crate::placing::{copy_of, lesser, place};
 use cert_text::Tree;
 use pack_model::{Memory, Problem};
-use search_judge::SearchJudge;
+use search_judge::{SearchJudge, problem_stands};
 use std::alloc::Global;
 use std::mem;
-use tree_search::{Found, flatten};
+use tree_search::{Found, Opened, Search, flatten};
 
 /// A search over all items from a partial grouping, by bounds with the values of lemmas, which stops between
 /// turns.
@@ -68,40 +68,47 @@ impl Task {
         })
     }
 
-    // The turn that goes on with its tree and what it found, with a best load. Both are taken away.
-    fn begin(&mut self, problem: &Problem, best: Option<u128>) -> Result<Turn, Memory>
+    // The search that goes on with its tree and what it found, with a best load. Both are taken away.
+    fn begin(&mut self, problem: &Problem, best: Option<u128>) -> Result<Search, Memory>
         requires { IsTask problem.now self.old }
         ensures path { self.new.path ≡ self.old.path }
         ensures lemmas { self.new.lemmas ≡ self.old.lemmas }
         ensures alloc { self.new.alloc ≡ self.old.alloc }
-        ensures turn { IfOk result (IsOf problem.now) }
-        ensures items { IfOk result (λ turn. items_of problem.now turn ≡ problem.now.items) }
-        ensures start { IfOk result (λ turn. start_of turn ≡ self.old.path.items) }
-        ensures at { IfOk result (λ turn. IsAt problem.now turn
+        ensures search { IfOk result (IsOf problem.now) }
+        ensures items { IfOk result (λ search. items_of problem.now search ≡ problem.now.items) }
+        ensures start { IfOk result (λ search. start_of search ≡ self.old.path.items) }
+        ensures at { IfOk result (λ search. IsAt problem.now search
             (record { tree = plain_of self.old.tree; best = best; found = self.old.found })) }
     {
         let partial = place(self.alloc, problem, &self.path)?;
         let tree = mem::replace(&mut self.tree, Tree::Left);
+        let found = self.found.take();
         let mut nodes = Vec::new(self.alloc);
         flatten(tree, &mut nodes)?;
-        let mut turn = Turn::new(self.alloc, problem, partial, best, self.found.take());
-        turn.read_all(problem, nodes)?;
-        Ok(turn)
+        let search = Search::resume(self.alloc, problem, partial, best, found, nodes)?;
+        Ok(search)
     }
 
-    // Keeps what a turn ended with.
-    fn keep(&mut self, problem: &Problem, mut turn: Turn) -> Result<(), Memory>
-        requires { IsOf problem.now turn }
+    // Keeps what a search ended a turn with.
+    fn keep(
+        &mut self,
+        judge: &SearchJudge,
+        problem: &Problem,
+        mut search: Search,
+    ) -> Result<(), Memory>
+        requires search { IsOf problem.now search }
+        requires suits { JudgesOver problem.now (items_of problem.now search) judge.now }
         ensures path { self.new.path ≡ self.old.path }
         ensures lemmas { self.new.lemmas ≡ self.old.lemmas }
         ensures alloc { self.new.alloc ≡ self.old.alloc }
-        ensures open { OnOk result (self.new.open ≡ turn.open) }
-        ensures at { OnOk result ((x : Searched) → IsAt problem.now turn x → search_of self.new ≡ x) }
+        ensures open { OnOk result (self.new.open ≡ search.open) }
+        ensures at { OnOk result ((x : Searched) → IsAt problem.now search x → search_of self.new ≡ x) }
     {
-        self.open = turn.open;
-        self.best = turn.best;
-        self.found = turn.found.take();
-        self.tree = turn.into_tree(problem)?;
+        self.open = search.pending();
+        self.best = search.best();
+        self.found = search.take_found();
+        let Opened { tree, least: _ } = search.into_tree(self.alloc, judge, problem)?;
+        self.tree = tree;
         Ok(())
     }
 
@@ -126,9 +133,9 @@ impl Task {
     {
         problem_stands(problem);
         let mut judge = SearchJudge::new(self.alloc, problem, None, &self.lemmas)?;
-        let mut turn = self.begin(problem, lesser(self.best, best))?;
-        let made = turn.advance(&mut judge, problem, steps)?;
-        self.keep(problem, turn)?;
+        let mut search = self.begin(problem, lesser(self.best, best))?;
+        let made = search.advance(&mut judge, problem, steps)?;
+        self.keep(&judge, problem, search)?;
         Ok(made)
     }
 

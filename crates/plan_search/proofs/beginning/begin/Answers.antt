@@ -1,14 +1,13 @@
 use Rattle.std.proofs.Common.{◌≡◌, ◌<◌, ◌∙◌, ℕ, List, [], All, length, get_or, sym, ap, subst, arith}
-use Rattle.std.proofs.lemmas.List.{get_or-map, length-map}
 use Rattle.pack_model.specs.Problem.{sent_by}
+use Rattle.pack_model.proofs.Laws.{tests}
 use Rattle.class_frame.specs.Legal.{IsLegal}
 use Rattle.cert_text.specs.declared.parts.Lemma.{Lemma}
-use Rattle.cert_text.specs.Parts.{LemmaOf}
-use Rattle.cert_text.specs.Trees.{Plain}
-use Rattle.cert_text.specs.PlainTree.{plain_lemma}
 use Rattle.plan_search.specs.Takes.{turns_of}
-use Rattle.plan_search.proofs.Beginnings.{all-stand, groupings-legal, lemmas-stand, nodes-counted, senders-fit, senders-low}
+use Rattle.plan_search.proofs.Beginnings.{all-stand, groupings-legal, lemmas-stand, nodes-counted, senders-there}
+use Rattle.plan_search.proofs.FewSenders.{senders_few}
 use Rattle.plan_search.proofs.Firsts.{first-stands}
+use Rattle.plan_search.proofs.LemmaValues.{senders-low}
 use Rattle.plan_search.proofs.beginning.begin.Goals as goal
 
 pub first_best-requires : goal.first_best-requires
@@ -23,20 +22,15 @@ first_best-requires c =
 pub lemma_values-requires : goal.lemma_values-requires
 lemma_values-requires c =
     let problem = c.args.problem.now in
-    let lemmas = c.in_ok-taken.taken.lemmas.items in
-    let low = senders-low problem c.in_ok-taken.ensures.problem c.args.branches (turns_of c.in_ok-taken.taken)
-    c.in_ok-taken.ensures.turns in
     subst (All (λ (lemma : Lemma). lemma.sender < length problem.senders)) (sym c.deref-2.ensures.value)
-    (λ k d lt.
-    omega (
-      arith,
-      low k (plain_lemma d) (omega (arith, lt, length-map lemmas plain_lemma)),
-      ap (λ (l : LemmaOf Plain). l.sender) (get_or-map plain_lemma lemmas k d (plain_lemma d) lt),
-    ))
+    (senders-low problem c.in_ok-taken.taken.lemmas.items
+    (senders-there problem c.in_ok-taken.ensures.problem c.args.branches (turns_of c.in_ok-taken.taken)
+    c.in_ok-taken.ensures.turns))
 
 pub returns-clause-stand : goal.returns-clause-stand
 returns-clause-stand c =
-    lemmas-stand c.args.problem.now c.in_ok-taken.ensures.problem c.args.branches (turns_of c.in_ok-taken.taken)
+    lemmas-stand c.args.problem.now c.in_ok-taken.ensures.problem c.args.branches
+    (turns_of c.in_ok-taken.taken)
     c.in_ok-taken.ensures.turns
 
 pub returns-clause-trimmed : goal.returns-clause-trimmed
@@ -51,7 +45,8 @@ returns-clause-nodes c =
 
 pub returns-clause-counted : goal.returns-clause-counted
 returns-clause-counted c =
-    nodes-counted c.args.problem.now c.in_ok-taken.ensures.problem c.args.branches (turns_of c.in_ok-taken.taken)
+    nodes-counted c.args.problem.now c.in_ok-taken.ensures.problem c.args.branches
+    (turns_of c.in_ok-taken.taken)
     c.in_ok-taken.ensures.turns
 
 pub returns-clause-first_stands : goal.returns-clause-first_stands
@@ -63,9 +58,16 @@ pub returns-clause-fits : goal.returns-clause-fits
 returns-clause-fits c =
     let problem = c.args.problem.now in
     let turns = turns_of c.in_ok-taken.taken in
-    let low = senders-low problem c.in_ok-taken.ensures.problem c.args.branches turns c.in_ok-taken.ensures.turns in
-    let at = all-stand problem c.in_ok-taken.ensures.problem c.args.branches turns c.in_ok-taken.ensures.turns in
+    let low = senders-there problem c.in_ok-taken.ensures.problem c.args.branches turns
+    c.in_ok-taken.ensures.turns in
+    let at = all-stand problem c.in_ok-taken.ensures.problem c.args.branches turns
+    c.in_ok-taken.ensures.turns in
     λ k d lt. (
-      omega (arith, low k d lt, senders-fit problem c.in_ok-taken.ensures.problem c.in_ok-first.ensures.sorted),
+      omega (
+        arith,
+        low k d lt,
+        senders_few problem c.in_ok-taken.ensures.problem c.in_ok-first.ensures.sorted,
+        (tests problem c.in_ok-taken.ensures.problem).few_items,
+      ),
       at.fit k d lt,
     )

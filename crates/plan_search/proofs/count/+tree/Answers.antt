@@ -30,7 +30,11 @@ count_each-returns t c =
 
 pub count_nodes-returns-in-Inner : goal.count_nodes-returns-in-Inner
 count_nodes-returns-in-Inner t c =
-    omega (arith, ap nodes_of (ap plain_of c.in-Inner.is ∙ plain-Inner c.in-Inner.trees), c.count_each.ensures)
+    omega (
+      arith,
+      ap nodes_of (ap plain_of c.in-Inner.is ∙ plain-Inner c.in-Inner.trees),
+      c.count_each.ensures,
+    )
 
 pub count_nodes-returns-in-Bound : goal.count_nodes-returns-in-Bound
 count_nodes-returns-in-Bound t c = omega (arith, ap nodes_of (ap plain_of c.in-Bound.is ∙ plain-Bound))

@@ -33,20 +33,28 @@ returns-in-Some c =
     let time : c.from-bit.result ≡ problem.network.nominal_ticks =
     c.from-bit.ensures ∙ ap (λ (n : Network). n.nominal_ticks) c.network.ensures.network in
     let lowest : IsLowestFirst c.deref-3.result.now c.from-bit.result 0 order =
-    subst (λ found. IfSome found (λ o. IsLowestFirst c.deref-3.result.now c.from-bit.result 0 o.items)) c.in-Some.is
+    subst (λ found. IfSome found (λ o. IsLowestFirst c.deref-3.result.now c.from-bit.result 0 o.items))
+    c.in-Some.is
     c.in_ok-order.ensures.lowest_first in
     let passes : OrderPasses c.deref-3.result.now c.from-bit.result order =
-    subst (λ found. IfSome found (λ o. OrderPasses c.deref-3.result.now c.from-bit.result o.items)) c.in-Some.is
+    subst (λ found. IfSome found (λ o. OrderPasses c.deref-3.result.now c.from-bit.result o.items))
+    c.in-Some.is
     c.in_ok-order.ensures.passes in
     let loads : load ≡ load_of problem problem.items labels =
     c.load_of_frames.ensures
-    ∙ ap (λ hyper. sum_by (λ (f : Timed). f.ticks * (hyper / f.period)) c.deref-in-Some.result.now) c.hyper.ensures.hyper
+    ∙ ap (λ hyper. sum_by (λ (f : Timed). f.ticks * (hyper / f.period)) c.deref-in-Some.result.now)
+    c.hyper.ensures.hyper
     ∙ ap (sum_by (λ (f : Timed). f.ticks * (problem.hyper / f.period))) (c.deref-in-Some.ensures.value ∙ are)
     ∙ loads-sum problem labels (range_with_len 0 (classes_of labels)) in
     let base : IsTimed problem labels (Some (record { labels = labels; order = order; load = load })) =
     found-timed problem labels order c.deref-3.result.now c.from-bit.result load c.requires
     (c.deref-3.ensures.value ∙ are) time lowest passes loads in
-    subst (λ l. IsTimed problem labels (Some (record { labels = l; order = c.of-in-Some.result; load = load })))
+    subst (λ l. IsTimed problem labels (Some (record {
+      labels = l;
+      order = c.of-in-Some.result;
+      load =
+          load;
+    })))
     (sym c.of.ensures)
     (subst (λ o. IsTimed problem labels (Some (record { labels = labels; order = o; load = load })))
     (sym c.of-in-Some.ensures) base)

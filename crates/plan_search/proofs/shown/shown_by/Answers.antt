@@ -1,11 +1,10 @@
-use Rattle.std.proofs.Common.{◌≡◌, List, length, All, sym, ap, ◌∙◌, subst, arith}
+use Rattle.std.proofs.Common.{◌≡◌, List, length, sym, ap, ◌∙◌, subst, arith}
 use Rattle.pack_model.specs.declared.network.Network.{Network}
 use Rattle.busy_period.specs.declared.timed.Timed.{Timed}
-use Rattle.busy_period.specs.Timed.{IsInRange}
 use Rattle.response_test.specs.Order.{OrderPasses}
 use Rattle.class_frame.specs.Grouping.{IsOrder, classes_of}
 use Rattle.search_judge.specs.Findings.{frames_at}
-use Rattle.plan_search.proofs.Founds.{is_order, order_count, order_few, passes_in_range}
+use Rattle.plan_search.proofs.Founds.{is_order, order_count, order_few}
 use Rattle.plan_search.proofs.shown.shown_by.Goals as goal
 
 pub overflow_cast-order : goal.overflow_cast-order
@@ -25,21 +24,15 @@ least_lines-requires-clause-passes c =
     let value : c.deref.result.now ≡ frames_at c.args.problem.now c.args.found.now.labels =
     c.deref.ensures.value ∙ c.in_ok-frames.ensures.value
     ∙ ap (frames_at c.args.problem.now) c.as_slice-labels.ensures in
-    let in_range : All IsInRange (frames_at c.args.problem.now c.args.found.now.labels) =
-    subst (All IsInRange) (c.in_ok-frames.ensures.value
-    ∙ ap (frames_at c.args.problem.now) c.as_slice-labels.ensures) c.in_ok-frames.ensures.in_range in
-    let passes : OrderPasses (frames_at c.args.problem.now c.args.found.now.labels)
-    c.args.problem.now.network.nominal_ticks c.args.found.now.order =
-    passes_in_range c.args.problem.now c.args.found.now.labels c.args.found.now.order c.requires.lowest_first
-    c.network.ensures.problem in_range in
     let bit : c.from-bit.result ≡ c.args.problem.now.network.nominal_ticks =
     c.from-bit.ensures ∙ ap (λ (n : Network). n.nominal_ticks) c.network.ensures.network in
     let here : OrderPasses c.deref.result.now c.from-bit.result c.as_slice-order.result.now =
-    subst (λ (frames : List Timed). OrderPasses frames c.from-bit.result c.as_slice-order.result.now) (sym value)
+    subst (λ (frames : List Timed). OrderPasses frames c.from-bit.result c.as_slice-order.result.now)
+    (sym value)
     (subst (λ time. OrderPasses (frames_at c.args.problem.now c.args.found.now.labels) time
     c.as_slice-order.result.now) (sym bit)
     (subst (OrderPasses (frames_at c.args.problem.now c.args.found.now.labels)
-    c.args.problem.now.network.nominal_ticks) (sym c.as_slice-order.ensures) passes)) in
+    c.args.problem.now.network.nominal_ticks) (sym c.as_slice-order.ensures) c.requires.passes)) in
     here.passes
 
 pub matrix_of-requires-clause-order : goal.matrix_of-requires-clause-order

@@ -8,7 +8,8 @@ use Rattle.plan_search.specs.Searches.{trimmed}
 use Rattle.tree_search.specs.Shown.{items_of, start_of}
 use Rattle.tree_search.specs.Open.{has_open}
 use Rattle.plan_search.proofs.Sought.{ended, has-found}
-use Rattle.plan_search.proofs.Spends.{Reached, judges-over, open-is, reached, taken-at, trimmed-is}
+use Rattle.search_judge.proofs.Places.{judges_over, open_at, taken_at}
+use Rattle.plan_search.proofs.Spends.{Reached, reached, trimmed-is}
 use Rattle.plan_search.proofs.turns.search_sender.Goals as goal
 
 pub returns-then-pending : goal.returns-then-pending
@@ -23,7 +24,8 @@ returns-then-pending c =
     record {
       end = it.end;
       search = it.search;
-      gives = open-is c.args.problem.now c.advance.new.self it.end it.at ∙ sym c.pending.ensures ∙ c.if-pending.true;
+      gives = open_at c.args.problem.now c.advance.new.self it.end it.at ∙ sym c.pending.ensures
+          ∙ c.if-pending.true;
     }
 
 pub unreachable-requires : goal.unreachable-requires
@@ -36,8 +38,9 @@ unreachable-requires c =
     (c.new-search.ensures.start ∙ c.in_ok-partial.ensures.none) c.new-search.ensures.at told.within told.fewer
     told.gives in
     let closed : has_open it.end.tree ≡ false =
-    open-is c.args.problem.now c.advance.new.self it.end it.at ∙ sym c.pending.ensures ∙ c.if-pending.false in
-    absurd (has-found c.args.problem.now c.in_ok-partial.ensures.belongs.stands c.args.sender c.args.share it.end
+    open_at c.args.problem.now c.advance.new.self it.end it.at ∙ sym c.pending.ensures ∙ c.if-pending.false in
+    absurd (has-found c.args.problem.now c.in_ok-partial.ensures.belongs.stands c.args.sender c.args.share
+    it.end
     it.search closed (it.at.found ∙ sym c.take_found.ensures.found ∙ c.in_default.is))
 
 pub overflow_mul-value : goal.overflow_mul-value
@@ -50,9 +53,10 @@ overflow_mul-value c =
     (c.new-search.ensures.start ∙ c.in_ok-partial.ensures.none) c.new-search.ensures.at told.within told.fewer
     told.gives in
     let closed : has_open it.end.tree ≡ false =
-    open-is c.args.problem.now c.advance.new.self it.end it.at ∙ sym c.pending.ensures ∙ c.if-pending.false in
+    open_at c.args.problem.now c.advance.new.self it.end it.at ∙ sym c.pending.ensures ∙ c.if-pending.false in
     let small : 8 * c.in-Some.found.load < 2 ^ 128 =
-    (ended c.args.problem.now c.in_ok-partial.ensures.belongs.stands c.args.sender c.args.share it.end it.search
+    (ended c.args.problem.now c.in_ok-partial.ensures.belongs.stands c.args.sender c.args.share it.end
+    it.search
     closed c.in-Some.found (it.at.found ∙ sym c.take_found.ensures.found ∙ c.in-Some.is)).small in
     omega arith
 
@@ -60,7 +64,7 @@ pub into_trimmed-requires-clause-suits : goal.into_trimmed-requires-clause-suits
 into_trimmed-requires-clause-suits c =
     let problem = c.args.problem.now in
     c.in_ok-advance.ensures.suits problem (items_of problem c.take_found.new.self)
-    (judges-over problem (Some c.args.sender) [] (items_of problem c.take_found.new.self) c.in_ok-judge.judge
+    (judges_over problem (Some c.args.sender) [] (items_of problem c.take_found.new.self) c.in_ok-judge.judge
     c.in_ok-judge.ensures.is
     (ap (items_of problem) c.take_found.ensures.rest ∙ c.in_ok-advance.ensures.goes_on.items
     ∙ c.new-search.ensures.items ∙ c.in_ok-partial.ensures.range))
@@ -75,7 +79,8 @@ into_trimmed-requires-clause-tree c =
     (c.new-search.ensures.start ∙ c.in_ok-partial.ensures.none) c.new-search.ensures.at told.within told.fewer
     told.gives in (
       record { tree = it.end.tree; best = it.end.best; found = None },
-      taken-at c.args.problem.now c.advance.new.self c.take_found.new.self it.end c.take_found.ensures.rest it.at,
+      taken_at c.args.problem.now c.advance.new.self c.take_found.new.self it.end c.take_found.ensures.rest
+          it.at,
     )
 
 pub returns : goal.returns
@@ -92,10 +97,10 @@ returns c =
     (c.new-search.ensures.start ∙ c.in_ok-partial.ensures.none) c.new-search.ensures.at told.within told.fewer
     told.gives in
     let closed : has_open it.end.tree ≡ false =
-    open-is problem c.advance.new.self it.end it.at ∙ sym c.pending.ensures ∙ c.if-pending.false in
+    open_at problem c.advance.new.self it.end it.at ∙ sym c.pending.ensures ∙ c.if-pending.false in
     let tree : plain_of c.in_ok-tree.tree ≡ trimmed problem (Some sender) [] (8 * found.load) it.end.tree =
     c.in_ok-tree.ensures (record { tree = it.end.tree; best = it.end.best; found = None })
-    (taken-at problem c.advance.new.self taken it.end c.take_found.ensures.rest it.at)
+    (taken_at problem c.advance.new.self taken it.end c.take_found.ensures.rest it.at)
     ∙ trimmed-is problem sender (8 * found.load) taken
     (λ parts items p. lower8_of parts c.advance.new.judge.values.items items p)
     (λ parts items p. lower8_of parts c.in_ok-judge.judge.values.items items p) it.end.tree

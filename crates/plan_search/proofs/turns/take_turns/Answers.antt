@@ -23,7 +23,8 @@ take-requires c =
     omega (
       arith,
       turn-fits c.args.problem.now c.turn_count-senders.ensures.problem c.loop-sender.sender
-          (c.loop-sender.taken.left / c.from.result) c.in_ok-ended.field-0 c.in-Some.ended c.in_ok-ended.ensures
+          (c.loop-sender.taken.left / c.from.result) c.in_ok-ended.field-0 c.in-Some.ended
+          c.in_ok-ended.ensures
           c.in-Some.is,
       div-le_self c.loop-sender.taken.left c.from.result,
     )
@@ -33,10 +34,12 @@ loop-sender-preserved c =
     let problem = c.args.problem.now in
     let n = c.loop-sender.sender in
     let left = c.loop-sender.taken.left in
-    let all = count-is problem n (omega (arith, c.loop-sender-test.true, c.turn_count-senders.ensures.count)) in
+    let all = count-is problem n (omega (arith, c.loop-sender-test.true, c.turn_count-senders.ensures.count))
+    in
     let waiting : c.from.result ≡ length problem.senders - n + 1 =
     omega (arith, c.from.ensures, c.turn_count-senders.ensures.count, all) in
-    let same : left / c.from.result ≡ share_of left (length problem.senders - n) = ap (λ d. left / d) waiting in
+    let same : left / c.from.result ≡ share_of left (length problem.senders - n) =
+    ap (λ d. left / d) waiting in
     turn-more problem c.args.branches n (turns_of c.loop-sender.taken) (turns_of c.match-branch-2.taken)
     (left / c.from.result) c.in_ok-ended.field-0 c.loop-sender.invariant c.in_ok-ended.ensures same
     (elim c.match-branch-2.branch [
