@@ -1,19 +1,17 @@
 -- What is accepted holds: the matrix part of the rule alone gives each signal one place, and a legal grouping.
-use Rattle.std.proofs.Common.{◌≡◌, ◌<◌, ◌≤◌, ◌+◌, ◌∙◌, ℕ, Bool, true, false, cond, List, [], ◌∷◌, ◌||◌, length, get_or, map, count_by, ap, sym, refl, arith, All, Ok, true≢false}
+use Rattle.std.proofs.Common.{◌≡◌, ◌<◌, ◌≤◌, ◌∙◌, ℕ, Bool, true, false, cond, List, [], ◌∷◌, ◌||◌, length, get_or, map, count_by, ap, sym, refl, arith, Ok, true≢false}
 use Rattle.std.specs.List.{list_any, position_or_len}
 use Rattle.std.proofs.lemmas.List.{get_or-map, length-map}
 use Rattle.pack_model.specs.declared.signal.Signal.{Signal}
 use Rattle.pack_model.specs.Problem.{Parts, IsProblem, IsSorted, names_of}
 use Rattle.pack_model.proofs.Laws.{element}
 use Rattle.pack_model.proofs.ListLaws.{first_place}
-use Rattle.class_frame.specs.Grouping.{IsOrder}
 use Rattle.class_frame.specs.Legal.{IsLegal}
 use Rattle.matrix_rows.specs.declared.matrix.MatrixRow.{MatrixRow}
-use Rattle.matrix_text.specs.Frames.{grouping_of, order_of}
+use Rattle.matrix_text.specs.Frames.{grouping_of}
 use Rattle.matrix_text.specs.Items.{is_named}
 use Rattle.matrix_text.specs.OnePlace.{OnePlace}
 use Rattle.matrix_text.specs.Placed.{OneRow, Placed}
-use Rattle.matrix_text.specs.Row.{RowInRange}
 use Rattle.placed_matrix.specs.Tables.{HasRows}
 use Rattle.placed_matrix.proofs.Counts.{counted}
 use Rattle.placed_matrix.proofs.FoundLegal.{is_legal}
