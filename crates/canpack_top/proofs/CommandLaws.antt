@@ -32,7 +32,6 @@ use Rattle.plan_search.specs.declared.planned.Planned.{Planned}
 use Rattle.plan_search.specs.declared.planned.Planned.TheVariants as planned
 use Rattle.plan_search.specs.Plan.{IsWithin, verdict_of_plan}
 use Rattle.plan_search.specs.Searches.{branches_of}
-use Rattle.canpack_top.proofs.OneVerdict.{exclusive}
 use Rattle.canpack_top.proofs.Planned.{not_rejected}
 use Rattle.canpack_top.proofs.Promised.{promised}
 use Rattle.canpack_top.proofs.Runs.{ok_and}
@@ -134,6 +133,13 @@ ok_and_both (Err e) P Q R both p q = p
 ok_not_both : {X E : Type 0} (r : Result X E) (P Q : X → Type 0) → ((x : X) → P x → Q x → ⊥) → IsOkAnd r P → IsOkAnd r Q → ⊥
 ok_not_both (Ok x) P Q clash p q = clash x p q
 ok_not_both (Err e) P Q clash p q = p
+
+-- the acceptance rule doesn't both hold and fail
+exclusive : (judged : Judged) (shown : Verdict) (failed : Part) → Finds (found.Shown shown) judged
+    → Finds (found.Rejected failed) judged → ⊥
+exclusive judged shown part.Matrix holds fails = fails holds.rule.matrix
+exclusive judged shown part.Timing holds fails = fails.1 holds.rule.timing
+exclusive judged shown part.Tree holds fails = fails.2 holds.rule.tree
 
 -- texts that stand are not refused
 ok_not_refused : {X : Type 0} (r : Result X Refusal) → IsOk r → IsSome (option_map refused_line (result_err r)) → ⊥

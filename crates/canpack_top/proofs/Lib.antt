@@ -6,7 +6,6 @@ pub mod Accepted
 pub mod Runs
 pub mod Said
 pub mod Promised
-pub mod OneVerdict
 pub mod CommandLaws
 pub mod Made
 pub mod MakeLaws

@@ -1,18 +1,17 @@
 //! The texts and the line of a plan, made before anything is written.
-ghost use Rattle.std.specs.Prelude.{◌≡◌, ◌≤◌, [], IfOk, unwrap_or};
-ghost use Rattle.bandwidth_bound.specs.declared.verdict.Verdict.{Verdict};
-ghost use Rattle.bandwidth_bound.specs.Follows.{Holds};
-ghost use Rattle.bandwidth_bound.specs.Rule.{Accepts};
+ghost use Rattle.std.specs.Prelude.{◌≡◌, ◌≤◌, [], All, IfOk, unwrap_or};
+ghost use Rattle.pack_model.specs.Problem.{IsProblem, IsSorted};
+ghost use Rattle.matrix_text.specs.Row.{RowInRange};
 ghost use Rattle.plan_search.specs.Plan.{cert_of_plan, matrix_of_plan};
 ghost use Rattle.canpack_top.specs.Plan.{AreMade, IsMade, plan_status};
 
 use crate::ending::Status;
-use crate::verdict::{Found, found_line, judge};
+use crate::verdict::{Found, found_line};
 use bandwidth_bound::Verdict;
 use cert_text::{Cert, write_cert};
 use matrix_text::{Matrix, write_matrix};
 use pack_model::{Memory, Problem};
-use plan_search::{Planned, plan};
+use plan_search::{Planned, Told, plan_shown};
 use std::alloc::Global;
 
 /// How a plan ends, with its matrix and its certificate.
@@ -91,15 +90,14 @@ fn outcome_of(alloc: Global, planned: Planned) -> Outcome
     }
 }
 
-/// The verdict that was found of what is accepted.
-fn shown_of(found: Found) -> Verdict
-    requires { (shown : Verdict) × (found ≡ Found.Shown shown) }
-    ensures { found ≡ Found.Shown result }
+/// The problem stands, its items are those of its signals, and the figures of the matrix are in their ranges.
+fn parts_stand(problem: &Problem, matrix: &Matrix)
+    ensures problem { IsProblem problem.now }
+    ensures sorted { IsSorted problem.now.signals problem.now.items }
+    ensures in_range { All RowInRange matrix.now }
 {
-    match found {
-        Found::Shown(shown) => shown,
-        Found::Rejected(_) => unreachable!(),
-    }
+    let _items = problem.items();
+    let _rows = matrix.rows();
 }
 
 /// The plan for a problem within so many branches, from 1 to 1000000. The only error is want of memory.
@@ -108,18 +106,18 @@ pub(crate) fn make_plan(alloc: Global, problem: &Problem, branches: u64) -> Resu
     requires most { branches ≤ 1000000 }
     ensures { IfOk result (IsMade problem.now branches) }
 {
+    let Told { planned, verdict } = plan_shown(alloc, problem, branches)?;
     let Outcome {
         status,
         matrix,
         cert,
-    } = outcome_of(alloc, plan(alloc, problem, branches)?);
-    let found = judge(alloc, problem, &matrix, &cert)?;
-    let shown = shown_of(found);
+    } = outcome_of(alloc, planned);
+    parts_stand(problem, &matrix);
     Ok(Made {
         status,
         matrix,
         cert,
-        shown,
+        shown: verdict,
     })
 }
 

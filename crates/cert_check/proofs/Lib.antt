@@ -1,3 +1,4 @@
+pub mod AcceptedLaws
 pub mod BusLaws
 pub mod Found
 pub mod KindLaws

@@ -2,12 +2,13 @@
 //!
 //! The one contract that upper crates use is that of [`check_cert`]: it answers by the acceptance rule, with
 //! the verdict of the certificate's kind or the first part that fails, and where it gives a verdict, what
-//! follows from it holds.
+//! follows from it holds. The law [`accepted_holds`] says this of whatever the rule accepts.
 #![tactic(auto)]
 
 mod check;
 mod fault;
 mod kinds;
+mod laws;
 mod lemmas;
 mod timing;
 mod tree;
@@ -17,6 +18,7 @@ mod walk;
 pub use bandwidth_bound::Verdict;
 pub use check::check_cert;
 pub use fault::CheckFault;
+pub use laws::accepted_holds;
 
 #[cfg(test)]
 mod tests;
