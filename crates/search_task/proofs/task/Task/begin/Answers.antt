@@ -1,4 +1,4 @@
-use Rattle.std.proofs.Common.{◌≡◌, true, ap, sym, ◌∙◌}
+use Rattle.std.proofs.Common.{◌≡◌, true, ◌∙◌}
 use Rattle.cert_text.specs.PlainTree.{plain_of}
 use Rattle.grouping_tree.specs.Grouped.{labels_of, range_of}
 use Rattle.bandwidth_bound.specs.Goals.{main_goal}
