@@ -51,9 +51,11 @@ fn both_in_one_frame(rt: HostRuntime) {
     let found = search.take_found().expect(&rt, "a grouping");
     assert_eq!(rt; found.labels.as_slice(), [0, 0].as_slice());
     assert_eq!(rt; found.order.as_slice(), [0].as_slice());
-    let tree = search.into_tree(rt.alloc(), &problem).expect(&rt, "memory");
+    let opened = search
+        .into_tree(rt.alloc(), &judge, &problem)
+        .expect(&rt, "memory");
     let mut nodes = Vec::new(rt.alloc());
-    flatten(tree, &mut nodes).expect(&rt, "memory");
+    flatten(opened.tree, &mut nodes).expect(&rt, "memory");
     let told = matches!(
         nodes.as_slice(),
         [Node::Inner(1), Node::Inner(2), Node::Bound, Node::Bound]
