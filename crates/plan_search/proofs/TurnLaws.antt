@@ -78,8 +78,7 @@ senders-few problem stands =
 
 module _ (problem : Parts) (stands : IsProblem problem) (branches : ℕ) where
   -- after the turns of the first senders: their lemmas stand, trimmed, within the branches spent, and where
-  -- each search
-  -- ended each grouping is a legal one of its sender's items
+  -- each search ended each grouping is a legal one of its sender's items
   pub record TurnsStand (n : ℕ) (turns : Turns) : Type 0 where
     pub nodes : turns.left + nodes_of_lemmas turns.lemmas ≡ branches
     pub ascending : IsStrictlyIncreasing (map (λ lemma. lemma.sender) turns.lemmas)

@@ -1,6 +1,5 @@
--- How a plan begins: a lemma for each sender whose search ends within its share, and the first best grouping.
--- The
--- project's own.
+-- How a plan begins: a lemma for each sender whose search ends within its share, and the first best
+-- grouping. The project's own.
 use Rattle.std.specs.Prelude.{ℕ, zero, suc, ◌≡◌, ◌+◌, ◌-◌, ◌*◌, ◌/◌, Bool, true, false, ◌&&◌, List, [], ◌∷◌, ◌++◌, length, map, nat_eq, nat_le, nat_lt, Option, Some, None, cond}
 use Rattle.pack_model.specs.Problem.{Parts}
 use Rattle.response_test.specs.Order.{OrderPasses}
@@ -18,8 +17,7 @@ use Rattle.plan_search.specs.Alone.{labels_alone}
 use Rattle.plan_search.specs.Searches.{IsSearch, trimmed}
 
 -- What the turns of senders leave: the branches left, the lemmas, and the groupings of the senders whose
--- search
--- ended.
+-- search ended.
 pub record Turns : Type 0 where
   pub left : ℕ
   pub lemmas : List (LemmaOf Plain)
@@ -71,8 +69,7 @@ abbrev pub has_turns : Parts → Bool
 has_turns problem = nat_le 2 (length problem.senders)
 
 -- the groupings of senders put together: each one's labels follow those of the ones before, of which there
--- are
--- so many
+-- are so many
 abbrev pub put_together : ℕ → List (List ℕ) → List ℕ
 put_together classes [] = []
 put_together classes (labels ∷ groupings) =

@@ -17,9 +17,8 @@ use Rattle.tree_search.specs.Trim.{IsTrimmed, reaches, trim}
 abbrev pub begun_with : Option ℕ → Searched
 begun_with best = record { tree = left; best = best; found = None }
 
--- the search over the groupings of all items, or of one sender's, by bounds with the values of lemmas: within
--- a
--- budget of steps, and fewer only where no leaf is open then
+-- the search over the groupings of all items, or of one sender's, by bounds with the values of lemmas:
+-- within a budget of steps, and fewer only where no leaf is open then
 pub record IsSearch (problem : Parts) (range : Option ℕ) (values : List ℕ) (best : Option ℕ) (budget : ℕ)
     (end : Searched) : Type 0 where
   pub made : ℕ

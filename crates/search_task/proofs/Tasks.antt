@@ -83,8 +83,7 @@ stands_over problem values from best other t h =
     (lesser best other) from t (lesser_no_worse best other) h
 
 -- the steps of a judge over all items are those of what is found over them, of a task that holds what they
--- end
--- with
+-- end with
 pub steps_kept : (problem : Parts) (values : List ℕ) (items : List Item) (p q : List ℕ) (judge : SearchJudge)
     (made : ℕ) (x y z : Searched) → IsJudge problem None values judge → items ≡ problem.items → p ≡ q
     → Steps (Finds problem judge.range judge.values.items) items p made x y → z ≡ y

@@ -12,10 +12,9 @@ use Rattle.tree_search.specs.Walks.{EndsOpen}
 use Rattle.search_judge.specs.Findings.{FoundStands}
 use Rattle.search_task.specs.declared.task.Task.{Task}
 
--- a task belongs to a problem: its path is a partial grouping of all items, it has one lemma for each sender,
--- its tree stands at the path with its best load and lemmas, in preorder the nodes that are done come first,
--- and
--- what it found is a legal grouping of all items with an order that passes and its load
+-- a task belongs to a problem: its path is a partial grouping of all items, it has one lemma for each
+-- sender, its tree stands at the path with its best load and lemmas, in preorder the nodes that are done
+-- come first, and what it found is a legal grouping of all items with an order that passes and its load
 pub record IsTask (problem : Parts) (task : Task) : Type 0 where
   pub path_stands : IsPartial problem.items task.path.items
   pub one_each : length task.lemmas.items ≡ length problem.senders
