@@ -1,7 +1,8 @@
 -- What is found of a certificate whose file is read piece by piece.
-use Rattle.std.proofs.Common.{◌≡◌, ◌≤◌, ◌<◌, ◌^◌, ℕ, true, false, List, length, Result, Ok, Err, IsErrOf, arith, refl, sym, subst}
+use Rattle.std.proofs.Common.{◌≡◌, ◌≤◌, ◌<◌, ◌^◌, ℕ, true, false, List, length, Result, Ok, Err, IsErrOf, IsOkAnd, arith, refl, sym, subst}
 use Rattle.std.specs.Prelude.{nat_lt}
 use Rattle.std.proofs.lemmas.Bool.{le-ltb, lt-ltb}
+use Rattle.csv_table.specs.Columns.{◌>>=◌}
 use Rattle.pack_base.specs.Outside.{Files, bytes_at}
 use Rattle.pack_model.specs.Problem.{Parts}
 use Rattle.matrix_rows.specs.declared.matrix.MatrixRow.{MatrixRow}
@@ -13,12 +14,15 @@ use Rattle.cert_check.specs.declared.one_pass.FeedCheck.{FeedCheck}
 use Rattle.cert_check.specs.declared.one_pass.FeedCheck.TheVariants as feed
 use Rattle.cert_check.specs.Feed.{FeedFinds, IsOfSize}
 use Rattle.canpack_top.specs.declared.ending.Stop.TheVariants as stop
+use Rattle.canpack_top.specs.declared.refusal.Refusal.{Refusal}
 use Rattle.canpack_top.specs.declared.refusal.Refusal.TheVariants as refusal
 use Rattle.canpack_top.specs.declared.refusal.Role.TheVariants as role
 use Rattle.canpack_top.specs.declared.verdict.Found.{Found}
-use Rattle.canpack_top.specs.Files.{cert_at, size_limit}
+use Rattle.canpack_top.specs.Check.{texts_at}
+use Rattle.canpack_top.specs.Command.{Names}
+use Rattle.canpack_top.specs.Files.{cert_at, matrix_at, problem_at, size_limit}
 use Rattle.canpack_top.specs.Text.{cert_in, cert_refused, refused_as}
-use Rattle.canpack_top.specs.Verdict.{IsFoundOf, IsJudged, found_of}
+use Rattle.canpack_top.specs.Verdict.{Finds, IsFoundOf, IsJudged, found_of}
 
 -- a file that isn't too large says what its text does
 file_says : (files : Files) (name : List ℕ) (read : Result CertParts CertRefusal) → length (bytes_at files name) < 2 ^ 63
@@ -76,3 +80,18 @@ fault_is (Err (feed.BadLine number)) is = cc
 fault_is (Err feed.Cut) is = cc
 fault_is (Err feed.ReadFault) is = refl
 fault_is (Err feed.Memory) is = cc
+
+-- what was found of the certificate is what was found of the four texts, where the other three stand
+pub judgement_is : (names : Names) (files : Files) (problem : Parts) (rows : List MatrixRow) (what : Found) (hyper : ℕ)
+    → problem_at names files ≡ Ok problem → matrix_at files names.matrix ≡ Ok rows
+    → IsJudged (Ok what) problem rows (cert_at files names.cert) → hyper ≡ problem.hyper
+    → IsOkAnd (texts_at names files) (λ judged. Finds what judged × (hyper ≡ judged.problem.hyper))
+unfolding texts_at
+judgement_is names files problem rows what hyper problem_is matrix_is found hyper_is =
+    rw (problem_is, matrix_is) (by (cert_at files names.cert) found)
+  where
+    by : (read : Result CertParts Refusal) → IsJudged (Ok what) problem rows read
+        → IsOkAnd (read >>= (λ cert. Ok (record { problem = problem; matrix = rows; cert = cert })))
+        (λ judged. Finds what judged × (hyper ≡ judged.problem.hyper))
+    by (Ok cert) found = (found.finds, hyper_is)
+    by (Err why) found = found
