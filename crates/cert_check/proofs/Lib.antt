@@ -4,5 +4,7 @@ pub mod KindLaws
 pub mod LemmaLaws
 pub mod Lines
 pub mod Nexts
+pub mod SaidLaws
+pub mod SaidTrees
 pub mod TreeLaws
 pub mod Walks

@@ -5,10 +5,12 @@
 //! follows from it holds.
 #![tactic(auto)]
 
+mod cert_walk;
 mod check;
 mod fault;
 mod kinds;
 mod lemmas;
+mod placing;
 mod timing;
 mod tree;
 mod trees;

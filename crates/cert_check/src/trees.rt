@@ -15,7 +15,7 @@ use pack_model::Problem;
 use std::alloc::Global;
 
 /// A load in eighths.
-fn in_eighths(best: Option<u128>) -> Option<u128>
+pub(crate) fn in_eighths(best: Option<u128>) -> Option<u128>
     requires { HasRoom best }
     ensures { result ≡ eighths best }
 {
