@@ -56,10 +56,10 @@ module _ (problem : Parts) where
   lemmas_follow [] s all = (all, tt)
   lemmas_follow (lemma ∷ lemmas) s all =
       let rest = lemmas_follow lemmas (lemma_said s lemma) all in (
-        record { tree = rest.0.older.0; older = rest.0.older.1 },
+        rest.0.1,
         (
-          rest.0.tree.next,
-          stood (lemma_goal problem lemma.sender lemma.value) [] [] lemma.tree rest.0.tree.nodes,
+          rest.0.0.next,
+          stood (lemma_goal problem lemma.sender lemma.value) [] [] lemma.tree rest.0.0.nodes,
           rest.1,
         ),
       )
@@ -70,18 +70,17 @@ module _ (problem : Parts) where
   lemmas_stand [] s all follow = all
   lemmas_stand (lemma ∷ lemmas) s all follow =
       lemmas_stand lemmas (lemma_said s lemma)
-      (record {
-        tree = record {
+      (
+        record {
           next = follow.0;
-          nodes =
-              (walked (lemma_goal problem lemma.sender lemma.value) [] [] lemma.tree follow.1).stand;
-        };
-        older = (all.tree, all.older);
-      })
+          nodes = (walked (lemma_goal problem lemma.sender lemma.value) [] [] lemma.tree follow.1).stand;
+        },
+        all,
+      )
       follow.2
 
   -- the kind stays
-  kind_kept : (lemmas : List (LemmaOf Plain)) (s : Said) → (lemmas_said s lemmas).kind ≡ s.kind
+  pub kind_kept : (lemmas : List (LemmaOf Plain)) (s : Said) → (lemmas_said s lemmas).kind ≡ s.kind
   kind_kept [] s = refl
   kind_kept (lemma ∷ lemmas) s = kind_kept lemmas (lemma_said s lemma)
 
@@ -183,7 +182,7 @@ module _ (problem : Parts) where
     -- nothing was said to stand
     nothing_stands : AllStandSaid problem (lines_said problem cert)
     unfolding NodesStand
-    nothing_stands = record { tree = record { next = tt; nodes = tt }; older = tt }
+    nothing_stands = (record { next = tt; nodes = tt }, tt)
 
     -- the values that the main tree uses
     pub values_are : LemmasStand problem cert.lemmas → before.values ≡ values_of problem cert.lemmas
@@ -200,11 +199,11 @@ module _ (problem : Parts) where
         → TreesStand problem best (may_leave_of cert.kind) cert
     trees_stand is all =
         let r = lemmas_follow cert.lemmas (lines_said problem cert)
-        (record { tree = all.older.0; older = all.older.1 }) in
+        all.1 in
         let stand : LemmasStand problem cert.lemmas = stand_from cert.lemmas r.1 in
         let nodes : MainNodes (values_of problem cert.lemmas) cert.kind =
         subst (MainNodes (values_of problem cert.lemmas)) (kind_kept cert.lemmas (lines_said problem cert))
-        (subst (λ vs. MainNodes vs before.kind) (values_are stand) all.tree.nodes) in record {
+        (subst (λ vs. MainNodes vs before.kind) (values_are stand) all.0.nodes) in record {
           lemmas = stand;
           main =
               subst (MainStands problem (values_of problem cert.lemmas) best (may_leave_of cert.kind)) (sym is)
@@ -221,8 +220,8 @@ module _ (problem : Parts) where
         let main : TreeStands (main_goal problem (values_of problem cert.lemmas) best (may_leave_of cert.kind)) []
         tree =
         subst (MainStands problem (values_of problem cert.lemmas) best (may_leave_of cert.kind)) is stands.main in
-        record {
-          tree = record {
+        (
+          record {
             next = tt;
             nodes =
                 subst (λ vs. MainNodes vs before.kind) (sym (values_are stands.lemmas))
@@ -230,6 +229,6 @@ module _ (problem : Parts) where
                 (sym (kind_kept cert.lemmas (lines_said problem cert)))
                 (walked (main_goal problem (values_of problem cert.lemmas) best (may_leave_of cert.kind)) [] []
                 tree main).stand);
-          };
-          older = (all.tree, all.older);
-        }
+          },
+          all,
+        )

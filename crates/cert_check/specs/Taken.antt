@@ -1,5 +1,5 @@
 -- What a walk over the events of a certificate stores after some of them.
-use Rattle.std.specs.Prelude.{◌≡◌, ◌≤◌, ◌<◌, ◌↔◌, ◌-◌, ◌^◌, ⊤, ℕ, IsTrue, min, Bool, true, false, List, [], ◌∷◌, length, slice_index_or, Option, None, Some, option_map}
+use Rattle.std.specs.Prelude.{◌≡◌, ◌≤◌, ◌<◌, ◌↔◌, ◌-◌, ◌^◌, ⊤, ℕ, IsTrue, min, Bool, true, false, List, [], ◌∷◌, length, slice_index_or, ◌||◌, ◌⊎◌, Option, None, Some, option_map, Result, Ok, Err}
 use Rattle.pack_model.specs.Problem.{Parts, IsProblem, IsSorted}
 use Rattle.busy_period.specs.declared.timed.Timed.{Timed}
 use Rattle.busy_period.specs.Stage.{IsStage}
@@ -14,13 +14,19 @@ use Rattle.matrix_text.specs.OnePlace.{OnePlace}
 use Rattle.matrix_text.specs.Placed.{Placed}
 use Rattle.cert_text.specs.declared.event.Event.{Event}
 use Rattle.cert_text.specs.declared.parts.FrameLine.{FrameLine}
+use Rattle.cert_text.specs.Parts.{CertParts, HasParts}
 use Rattle.bandwidth_bound.specs.Trees.{Goal}
+use Rattle.bandwidth_bound.specs.declared.verdict.Verdict.{Verdict}
+use Rattle.bandwidth_bound.specs.declared.verdict.Verdict.TheVariants as verdict
 use Rattle.cert_check.specs.declared.cert_walk.CertWalk.{CertWalk}
+use Rattle.cert_check.specs.declared.fault.CheckFault.{CheckFault}
+use Rattle.cert_check.specs.declared.fault.CheckFault.TheVariants as fault
 use Rattle.cert_check.specs.declared.placing.Placing.{Placing}
 use Rattle.cert_check.specs.declared.walk.Walk.{Walk}
 use Rattle.cert_check.specs.Kinds.{has_row}
 use Rattle.cert_check.specs.Nodes.{NodesStand, Takes}
-use Rattle.cert_check.specs.Said.{Said, TreeSaid, said_by}
+use Rattle.cert_check.specs.Said.{Said, TreeSaid, cert_said, said_by}
+use Rattle.cert_check.specs.Trees.{lower_with}
 use Rattle.cert_check.specs.Walk.{IsWalk, goal_of, start, values_in, values_used, way_of}
 
 -- the frames of an order, with a nominal bit
@@ -85,19 +91,19 @@ EachStandsSaid problem [] = ⊤
 EachStandsSaid problem (tree ∷ trees) = StandsSaid problem tree × EachStandsSaid problem trees
 
 -- all that was told of trees stands
-pub record AllStandSaid (problem : Parts) (s : Said) : Type 0 where
-  pub tree : StandsSaid problem s.tree
-  pub older : EachStandsSaid problem s.older
+abbrev pub AllStandSaid : Parts → Said → Type 0
+AllStandSaid problem s = EachStandsSaid problem (s.tree ∷ s.older)
 
--- the trees before the one that is being told stand, and the walk took the nodes of that one
-pub record IsInTree (problem : Parts) (walk : Walk) (s : Said) : Type 0 where
+-- the walk took the nodes of the tree that is being told, and those before it stand
+pub record IsInTree (problem : Parts) (walk : Walk) (values : List ℕ) (tree : TreeSaid)
+    (older : List TreeSaid) : Type 0 where
   pub walks : IsWalk problem walk
-  pub values : walk.values.items ≡ s.values
-  pub aim : walk.aim ≡ s.tree.aim
-  pub used : values_used walk ≡ values_in s.tree.aim.range s.tree.values
-  pub next : ComesNext problem s.tree.last s.tree.aim.range
-  pub older : EachStandsSaid problem s.older
-  pub takes : Takes (goal_said problem s.tree) start (way_of problem walk) s.tree.nodes
+  pub kept : walk.values.items ≡ values
+  pub aim : walk.aim ≡ tree.aim
+  pub used : values_used walk ≡ values_in tree.aim.range tree.values
+  pub next : ComesNext problem tree.last tree.aim.range
+  pub stand : EachStandsSaid problem older
+  pub takes : Takes (goal_said problem tree) start (way_of problem walk) tree.nodes
 
 -- What the walk stores where this was said: whether the matrix has rows and is placed, with its frames; the
 -- kind; how many frame lines there were, up to 2^32 - 1, and whether one of them doesn't show its frame; the
@@ -112,7 +118,7 @@ pub record Stores (problem : Parts) (rows : List MatrixRow) (walk : CertWalk) (s
   pub lines : walk.lines ≡ min (length s.lines) (2 ^ 32 - 1)
   pub late : IsLate problem walk.placing s.lines walk.late
   pub last : walk.failed ≡ false → walk.last ≡ s.last
-  pub in_tree : walk.failed ≡ false → IsInTree problem walk.walk s
+  pub in_tree : walk.failed ≡ false → IsInTree problem walk.walk s.values s.tree s.older
   pub falls : walk.failed ≡ true → ¬ AllStandSaid problem s
   pub finished : walk.finished ≡ s.finished
 
@@ -138,3 +144,31 @@ ShowsAt problem placing place line =
 abbrev pub IsShowing : Parts → Option Placing → ℕ → FrameLine → Bool → Type 0
 IsShowing problem None place line shows = ⊤
 IsShowing problem (Some placing) place line shows = IsTrue shows ↔ ShowsAt problem placing place line
+
+-- it stores a whole certificate, which has the parts of its kind
+pub record IsWhole (problem : Parts) (rows : List MatrixRow) (walk : CertWalk) (cert : CertParts) : Type 0 where
+  pub parts : HasParts cert.kind cert.frames cert.lemmas cert.main_tree
+  pub stores : Stores problem rows walk (cert_said problem (load_in walk.placing) cert)
+
+-- something of the trees doesn't stand
+abbrev pub falls : CertWalk → Bool
+falls walk = walk.failed || walk.walk.failed
+
+-- the answer is this verdict, unless something of the trees doesn't stand
+abbrev pub IsClosed : CertWalk → Verdict → Result Verdict CheckFault → Type 0
+IsClosed walk shown (Ok answer) = (falls walk ≡ false) × (answer ≡ shown)
+IsClosed walk shown (Err fault.RejectedMatrix) = ⊥
+IsClosed walk shown (Err fault.RejectedTiming) = ⊥
+IsClosed walk shown (Err fault.RejectedTree) = falls walk ≡ true
+IsClosed walk shown (Err fault.Memory) = ⊥
+
+-- the answer is the lesser of the least bound at the open leaves and of 8 times the best, unless something of
+-- the trees doesn't stand, or no leaf is open
+abbrev pub IsOpen : CertWalk → Option ℕ → Result Verdict CheckFault → Type 0
+IsOpen walk best (Ok answer) = (falls walk ≡ false) × ((least : ℕ) × (walk.walk.least ≡ Some least)
+    × (answer ≡ verdict.Between best (lower_with best least)))
+IsOpen walk best (Err fault.RejectedMatrix) = ⊥
+IsOpen walk best (Err fault.RejectedTiming) = ⊥
+IsOpen walk best (Err fault.RejectedTree) =
+    (falls walk ≡ true) ⊎ ((falls walk ≡ false) × (walk.walk.least ≡ None))
+IsOpen walk best (Err fault.Memory) = ⊥

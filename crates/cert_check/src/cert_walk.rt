@@ -1,16 +1,26 @@
 //! The walk over the events of a certificate.
-ghost use Rattle.std.specs.Prelude.{◌≡◌, ◌++◌, ◌∷◌, ◌||◌, [], List, ◌↔◌, IfOk, IsTrue};
+ghost use Rattle.std.specs.Prelude.{◌≡◌, ◌++◌, ◌∷◌, ◌||◌, [], List, ◌↔◌, IfOk, IsErrOf, IsTrue, OnOk};
 ghost use Rattle.pack_model.specs.Problem.{Parts};
 ghost use Rattle.matrix_rows.specs.declared.matrix.MatrixRow.{MatrixRow};
 ghost use Rattle.cert_text.specs.declared.event.Event.{Event};
+ghost use Rattle.cert_text.specs.CertEvents.{cert_events};
+ghost use Rattle.cert_text.specs.CertText.{InRange};
+ghost use Rattle.cert_text.specs.Parts.{CertOf, CertParts, unmark_cert};
+ghost use Rattle.cert_text.specs.Trees.{Marked};
+ghost use Rattle.bandwidth_bound.specs.Follows.{Holds};
+ghost use Rattle.bandwidth_bound.specs.Rule.{MatrixOfKind, TimingOfKind};
+ghost use Rattle.cert_check.specs.Accept.{IsFound, judged_of};
 ghost use Rattle.cert_check.specs.Nodes.{bound_leaf, fail_leaf, inner_node, open_leaf};
 ghost use Rattle.cert_check.specs.Said.{Said, and_said, lemma_begun, main_begun, with_line, with_node};
-ghost use Rattle.cert_check.specs.Taken.{ComesNext, HasStored, HasTaken, IsShowing, Stores, Taken, load_in};
+ghost use Rattle.cert_check.specs.Trees.{HasRoom, IsAnswer};
+ghost use Rattle.cert_check.specs.Taken.{IsClosed, IsOpen, IsWhole, ComesNext, HasStored, HasTaken, IsShowing, Stores, Taken, load_in};
 
-use crate::kinds::may_leave;
+use crate::fault::CheckFault;
+use crate::kinds::{is_kind_placed, may_leave};
 use crate::placing::{Placing, place};
-use crate::trees::in_eighths;
+use crate::trees::{in_eighths, lower_with};
 use crate::walk::{Aim, Walk};
+use bandwidth_bound::Verdict;
 use cert_text::{Event, FrameLine, Kind};
 use matrix_text::Matrix;
 use pack_model::{Memory, Problem};
@@ -264,5 +274,110 @@ impl CertWalk {
             → Taken self.new problem.now rows (events ++ event.now ∷ []) }
     {
         self.take_event(problem, event);
+    }
+
+    /// Whether the matrix part of the rule holds.
+    fn matrix_stands(&self) -> bool
+        ensures { (problem : Parts) (rows : List MatrixRow) (s : Said) → Stores problem rows self.now s
+            → IsTrue result ↔ MatrixOfKind s.kind problem rows }
+    {
+        let placed = self.placing.is_some();
+        match self.kind {
+            Kind::KindPlaced | Kind::KindTimed | Kind::KindBest => placed,
+            Kind::KindBetween => placed || !self.has_rows,
+            Kind::KindNoSolution => !self.has_rows,
+        }
+    }
+
+    /// Whether the timing part of the rule holds, where the matrix part does.
+    fn timing_stands(&self) -> bool
+        ensures { (problem : Parts) (rows : List MatrixRow) (s : Said) → Stores problem rows self.now s
+            → MatrixOfKind s.kind problem rows → IsTrue result ↔ TimingOfKind s.kind problem rows s.lines }
+    {
+        if is_kind_placed(self.kind) {
+            return self.lines == 0;
+        }
+        match &self.placing {
+            None => self.lines == 0,
+            Some(placing) => !self.late && self.lines as usize == placing.order.len(),
+        }
+    }
+
+    /// The verdict where the trees stand without open leaves.
+    fn judge_closed(&self, shown: Verdict) -> Result<Verdict, CheckFault>
+        ensures { IsClosed self.now shown result }
+    {
+        if self.trees_fail() {
+            return Err(CheckFault::RejectedTree);
+        }
+        Ok(shown)
+    }
+
+    /// The verdict where the trees stand with open leaves.
+    fn judge_open(&self, best: Option<u128>) -> Result<Verdict, CheckFault>
+        requires { HasRoom best }
+        ensures { IsOpen self.now best result }
+    {
+        if self.trees_fail() {
+            return Err(CheckFault::RejectedTree);
+        }
+        match self.walk.least() {
+            None => Err(CheckFault::RejectedTree),
+            Some(least) => Ok(Verdict::Between {
+                best,
+                lower: lower_with(best, least),
+            }),
+        }
+    }
+
+    /// Judges the trees, where matrix and times hold.
+    fn judge_trees(&self) -> Result<Verdict, CheckFault>
+        requires { (problem : Parts) × HasStored problem self.now }
+        ensures { (problem : Parts) (rows : List MatrixRow) (cert : CertParts) → IsWhole problem rows self.now cert
+            → IsAnswer problem (load_in self.now.placing) cert result }
+    {
+        let best = self.best();
+        let load = best.unwrap_or(0);
+        match self.kind {
+            Kind::KindPlaced => Ok(Verdict::Placed),
+            Kind::KindTimed => Ok(Verdict::Timed { load }),
+            Kind::KindBetween => self.judge_open(best),
+            Kind::KindBest => self.judge_closed(Verdict::Best { load }),
+            Kind::KindNoSolution => self.judge_closed(Verdict::NoSolution),
+        }
+    }
+
+    /// What is found of the certificate that was taken.
+    pub(crate) fn judge(&self) -> Result<Verdict, CheckFault>
+        requires { (problem : Parts) × HasStored problem self.now }
+        ensures found { (problem : Parts) (rows : List MatrixRow) (cert : CertParts)
+            → IsWhole problem rows self.now cert → IsFound problem rows cert result }
+        ensures known { ¬ (IsErrOf result CheckFault.Memory) }
+    {
+        if !self.matrix_stands() {
+            return Err(CheckFault::RejectedMatrix);
+        }
+        if !self.timing_stands() {
+            return Err(CheckFault::RejectedTiming);
+        }
+        self.judge_trees()
+    }
+
+    /// The verdict of the certificate whose events were taken, by the acceptance rule.
+    ///
+    /// # Errors
+    ///
+    /// The first part of the rule that fails: `RejectedMatrix`, `RejectedTiming` or `RejectedTree`.
+    pub fn verdict(&self, problem: &Problem) -> Result<Verdict, CheckFault>
+        requires { HasTaken self.now problem.now }
+        ensures found { (rows : List MatrixRow) (marked : CertOf Marked) → InRange marked
+            → Taken self.now problem.now rows (cert_events marked)
+            → IsFound problem.now rows (unmark_cert marked) result }
+        ensures holds { (rows : List MatrixRow) (marked : CertOf Marked) → InRange marked
+            → Taken self.now problem.now rows (cert_events marked)
+            → OnOk result (Holds (judged_of problem.now rows (unmark_cert marked))) }
+        ensures known { ¬ (IsErrOf result CheckFault.Memory) }
+    {
+        self.judge()
     }
 }
