@@ -1,4 +1,5 @@
 pub mod BusLaws
+pub mod FeedChecks
 pub mod Found
 pub mod Judged
 pub mod KindLaws

@@ -1,4 +1,5 @@
 pub mod Accept
+pub mod Feed
 pub mod Kinds
 pub mod Nodes
 pub mod Said

@@ -145,9 +145,13 @@ abbrev pub IsShowing : Parts → Option Placing → ℕ → FrameLine → Bool �
 IsShowing problem None place line shows = ⊤
 IsShowing problem (Some placing) place line shows = IsTrue shows ↔ ShowsAt problem placing place line
 
+-- a certificate has the parts of its kind
+abbrev pub HasOwnParts : CertParts → Type 0
+HasOwnParts cert = HasParts cert.kind cert.frames cert.lemmas cert.main_tree
+
 -- it stores a whole certificate, which has the parts of its kind
 pub record IsWhole (problem : Parts) (rows : List MatrixRow) (walk : CertWalk) (cert : CertParts) : Type 0 where
-  pub parts : HasParts cert.kind cert.frames cert.lemmas cert.main_tree
+  pub parts : HasOwnParts cert
   pub stores : Stores problem rows walk (cert_said problem (load_in walk.placing) cert)
 
 -- something of the trees doesn't stand

@@ -4,7 +4,6 @@ ghost use Rattle.pack_model.specs.Problem.{Parts};
 ghost use Rattle.matrix_rows.specs.declared.matrix.MatrixRow.{MatrixRow};
 ghost use Rattle.cert_text.specs.declared.event.Event.{Event};
 ghost use Rattle.cert_text.specs.CertEvents.{cert_events};
-ghost use Rattle.cert_text.specs.CertText.{InRange};
 ghost use Rattle.cert_text.specs.Parts.{CertOf, CertParts, unmark_cert};
 ghost use Rattle.cert_text.specs.Trees.{Marked};
 ghost use Rattle.bandwidth_bound.specs.Follows.{Holds};
@@ -13,7 +12,7 @@ ghost use Rattle.cert_check.specs.Accept.{IsFound, judged_of};
 ghost use Rattle.cert_check.specs.Nodes.{bound_leaf, fail_leaf, inner_node, open_leaf};
 ghost use Rattle.cert_check.specs.Said.{Said, and_said, lemma_begun, main_begun, with_line, with_node};
 ghost use Rattle.cert_check.specs.Trees.{HasRoom, IsAnswer};
-ghost use Rattle.cert_check.specs.Taken.{IsClosed, IsOpen, IsWhole, ComesNext, HasStored, HasTaken, IsShowing, Stores, Taken, load_in};
+ghost use Rattle.cert_check.specs.Taken.{HasOwnParts, IsClosed, IsOpen, IsWhole, ComesNext, HasStored, HasTaken, IsShowing, Stores, Taken, load_in};
 
 use crate::fault::CheckFault;
 use crate::kinds::{is_kind_placed, may_leave};
@@ -370,10 +369,10 @@ impl CertWalk {
     /// The first part of the rule that fails: `RejectedMatrix`, `RejectedTiming` or `RejectedTree`.
     pub fn verdict(&self, problem: &Problem) -> Result<Verdict, CheckFault>
         requires { HasTaken self.now problem.now }
-        ensures found { (rows : List MatrixRow) (marked : CertOf Marked) → InRange marked
+        ensures found { (rows : List MatrixRow) (marked : CertOf Marked) → HasOwnParts (unmark_cert marked)
             → Taken self.now problem.now rows (cert_events marked)
             → IsFound problem.now rows (unmark_cert marked) result }
-        ensures holds { (rows : List MatrixRow) (marked : CertOf Marked) → InRange marked
+        ensures holds { (rows : List MatrixRow) (marked : CertOf Marked) → HasOwnParts (unmark_cert marked)
             → Taken self.now problem.now rows (cert_events marked)
             → OnOk result (Holds (judged_of problem.now rows (unmark_cert marked))) }
         ensures known { ¬ (IsErrOf result CheckFault.Memory) }

@@ -7,6 +7,7 @@
 
 mod cert_walk;
 mod check;
+mod check_feed;
 mod fault;
 mod kinds;
 mod lemmas;
@@ -17,7 +18,9 @@ mod trees;
 mod walk;
 
 pub use bandwidth_bound::Verdict;
+pub use cert_walk::CertWalk;
 pub use check::check_cert;
+pub use check_feed::{FeedCheck, check_feed};
 pub use fault::CheckFault;
 
 #[cfg(test)]
