@@ -23,8 +23,8 @@ use Rattle.cert_text.proofs.SourceLaws.{ends_then, reads_none, reads_then}
 use Rattle.bandwidth_bound.specs.Follows.{Holds}
 use Rattle.bandwidth_bound.specs.declared.verdict.Verdict.{Verdict}
 use Rattle.cert_check.specs.declared.cert_walk.CertWalk.{CertWalk}
-use Rattle.cert_check.specs.declared.check_feed.FeedCheck.{FeedCheck}
-use Rattle.cert_check.specs.declared.check_feed.FeedCheck.TheVariants as feed
+use Rattle.cert_check.specs.declared.one_pass.FeedCheck.{FeedCheck}
+use Rattle.cert_check.specs.declared.one_pass.FeedCheck.TheVariants as feed
 use Rattle.cert_check.specs.declared.fault.CheckFault.{CheckFault}
 use Rattle.cert_check.specs.declared.fault.CheckFault.TheVariants as fault
 use Rattle.cert_check.specs.Accept.{IsFound, judged_of}

@@ -3,7 +3,7 @@ use Rattle.std.proofs.Common.{◌≡◌, ◌*◌, ◌^◌, ◌<◌, ◌-◌, ℕ
 use Rattle.std.specs.Prelude.{◌↔◌, ◌||◌, ◌&&◌, ◌==◌, not, unwrap_or, OnOk, IsSome}
 use Rattle.std.proofs.lemmas.Bool.{and_parts, eq-eqb, false≢true}
 use Rattle.pack_model.specs.Problem.{Parts, IsProblem}
-use Rattle.class_frame.specs.Classes.{load_of}
+use Rattle.class_frame.specs.Classes.{frames_of_classes, load_of}
 use Rattle.matrix_rows.specs.declared.matrix.MatrixRow.{MatrixRow}
 use Rattle.matrix_text.specs.Frames.{grouping_of, order_of}
 use Rattle.matrix_text.specs.Placed.{Placed}
@@ -67,8 +67,8 @@ PlacedBy problem rows placed = IsTrue placed ↔ Placed problem rows
 
 pub placed_said : (problem : Parts) (rows : List MatrixRow) (placing : Option Placing) (placed : Bool)
     → IsPlaced problem rows placing → (IsTrue placed ↔ IsSome placing) → PlacedBy problem rows placed
-placed_said problem rows None placed is some = (λ e. absurd (some.0 e), λ p. absurd (is p))
-placed_said problem rows (Some placing) placed is some = (λ e. is.placed, λ p. some.1 tt)
+placed_said problem rows None placed is some = (λ e. absurd (false≢true (some.0 e)), λ p. absurd (is p))
+placed_said problem rows (Some placing) placed is some = (λ e. is.placed, λ p. some.1 refl)
 
 no_rows : (rows : List MatrixRow) → IsTrue (not (has_row rows)) ↔ (rows ≡ [])
 no_rows [] = (λ e. refl, λ e. refl)
@@ -137,7 +137,7 @@ module _ (problem : Parts) (rows : List MatrixRow) (walk : CertWalk) (s : Said)
       ↔ TimingOfKind s.kind problem rows s.lines
   timing_some placing is late other =
       let to : is_to_be_placed s.kind rows ≡ true =
-      with_placing s.kind problem rows (has_rows problem rows stores.problem is.placed) matrix in
+      with_placing s.kind problem rows (has_rows problem rows stores.stands is.placed) matrix in
       and_then (by walk.late late)
       (timing_from s.kind problem rows s.lines to other, timing_to s.kind problem rows s.lines to other)
     where
@@ -154,7 +154,7 @@ module _ (problem : Parts) (rows : List MatrixRow) (walk : CertWalk) (s : Said)
           → ShowFirst placing.frames.items placing.order.items problem.network.nominal_ticks s.lines
       first stands =
           subst (λ f. ShowFirst f placing.order.items problem.network.nominal_ticks s.lines) (sym is.frames)
-          (subst (λ o. ShowFirst _ o problem.network.nominal_ticks s.lines) (sym is.order)
+          (subst (λ o. ShowFirst (frames_of_classes problem problem.items (grouping_of problem rows)) o problem.network.nominal_ticks s.lines) (sym is.order)
           (record { few = omega (arith, stands.count); each = stands.each }))
 
       by : (b : Bool) → IsLate problem (Some placing) s.lines b
@@ -253,11 +253,11 @@ module _ (problem : Parts) (rows : List MatrixRow) (walk : CertWalk) (cert : Cer
 
 -- what each kind is answered
 abbrev pub IsOfKind : Kind → CertWalk → Option ℕ → Result Verdict CheckFault → Type 0
-IsOfKind KindPlaced walk best answer = answer ≡ Ok verdict.Placed
-IsOfKind KindTimed walk best answer = answer ≡ Ok (verdict.Timed (unwrap_or best 0))
-IsOfKind KindBetween walk best answer = IsOpen walk best answer
-IsOfKind KindBest walk best answer = IsClosed walk (verdict.Best (unwrap_or best 0)) answer
-IsOfKind KindNoSolution walk best answer = IsClosed walk verdict.NoSolution answer
+IsOfKind KindPlaced walk load answer = answer ≡ Ok verdict.Placed
+IsOfKind KindTimed walk load answer = answer ≡ Ok (verdict.Timed (unwrap_or load 0))
+IsOfKind KindBetween walk load answer = IsOpen walk load answer
+IsOfKind KindBest walk load answer = IsClosed walk (verdict.Best (unwrap_or load 0)) answer
+IsOfKind KindNoSolution walk load answer = IsClosed walk verdict.NoSolution answer
 
 module _ (problem : Parts) (rows : List MatrixRow) (walk : CertWalk) (cert : CertParts)
     (whole : IsWhole problem rows walk cert) where
@@ -278,7 +278,7 @@ module _ (problem : Parts) (rows : List MatrixRow) (walk : CertWalk) (cert : Cer
       by : (tree : Option Plain) → cert.main_tree ≡ tree → IsSome tree
           → IsVerdict (TreeOfBest KindBetween problem (load_in walk.placing) cert)
           (verdict_of KindBetween problem (load_in walk.placing) cert) answer
-      by None e some = absurd some
+      by None e some = absurd (false≢true some)
       by (Some tree) e some =
           open_verdict problem rows walk cert whole tree e (ap may_leave_of is) answer found
   answer_is KindBest is answer found = by cert.main_tree refl has
@@ -289,7 +289,7 @@ module _ (problem : Parts) (rows : List MatrixRow) (walk : CertWalk) (cert : Cer
       by : (tree : Option Plain) → cert.main_tree ≡ tree → IsSome tree
           → IsVerdict (TreesStand problem (load_in walk.placing) false cert)
           (verdict.Best (unwrap_or (load_in walk.placing) 0)) answer
-      by None e some = absurd some
+      by None e some = absurd (false≢true some)
       by (Some tree) e some =
           subst (λ b. IsVerdict (TreesStand problem (load_in walk.placing) b cert)
           (verdict.Best (unwrap_or (load_in walk.placing) 0)) answer) (ap may_leave_of is)
@@ -302,7 +302,7 @@ module _ (problem : Parts) (rows : List MatrixRow) (walk : CertWalk) (cert : Cer
 
       by : (tree : Option Plain) → cert.main_tree ≡ tree → IsSome tree
           → IsVerdict (TreesStand problem (load_in walk.placing) false cert) verdict.NoSolution answer
-      by None e some = absurd some
+      by None e some = absurd (false≢true some)
       by (Some tree) e some =
           subst (λ b. IsVerdict (TreesStand problem (load_in walk.placing) b cert) verdict.NoSolution answer)
           (ap may_leave_of is) (closed_verdict problem rows walk cert whole tree e verdict.NoSolution answer found)
@@ -319,7 +319,7 @@ module _ (problem : Parts) (rows : List MatrixRow) (walk : CertWalk) (cert : Cer
           → best_of problem rs ≡ None
       none_of rs is m = ap (best_of problem) (rows_without cert.kind problem rs is m)
   best_same (Some placing) is matrix =
-      best_is problem rows placing.load (has_rows problem rows whole.stores.problem is.placed) is.load
+      best_is problem rows placing.load (has_rows problem rows whole.stores.stands is.placed) is.load
 
   load_same : (placing : Option Placing) → IsPlaced problem rows placing → MatrixOfKind cert.kind problem rows
       → HasTiming cert.kind rows
@@ -344,9 +344,9 @@ module _ (problem : Parts) (rows : List MatrixRow) (walk : CertWalk) (cert : Cer
       by : (placing : Option Placing) → IsPlaced problem rows placing → (answer : Result Verdict CheckFault)
           → IsFound problem rows cert answer → OnOk answer (Holds (judged_of problem rows cert))
       by None other (Ok shown) found =
-          holds_without problem rows cert whole.stores.problem
+          holds_without problem rows cert whole.stores.stands
           (without_placing cert.kind problem rows other found.rule.matrix) (Ok shown) found
       by None other (Err why) found = tt
       by (Some placing) is answer found =
-          holds_placed problem rows cert whole.stores.problem whole.stores.sorted is.one_place is.legal is.named
+          holds_placed problem rows cert whole.stores.stands whole.stores.sorted is.one_place is.legal is.named
           answer found

@@ -1,5 +1,6 @@
 -- What was said of the trees of a certificate stands exactly where they do.
-use Rattle.std.proofs.Common.{◌≡◌, ⊤, ℕ, zero, suc, ◌<◌, ◌≤◌, ◌+◌, ◌↔◌, List, [], ◌∷◌, ◌++◌, length, map, get_or, set, All, Option, Some, None, Bool, refl, sym, ap, subst, ◌∙◌, append_assoc, append-nil, arith}
+use Rattle.std.specs.Prelude.{⊤}
+use Rattle.std.proofs.Common.{◌≡◌, ℕ, zero, suc, ◌<◌, ◌≤◌, ◌+◌, ◌↔◌, List, [], ◌∷◌, ◌++◌, length, map, get_or, set, All, Option, Some, None, Bool, refl, sym, ap, subst, ◌∙◌, append_assoc, append-nil, arith}
 use Rattle.std.specs.List.{AllByRecursion}
 use Rattle.std.specs.List.Sorted.{IsStrictlyIncreasing}
 use Rattle.std.proofs.lemmas.List.Elements.{All-from_recursion, All-nil, All-push, recursion_from_All}
@@ -69,8 +70,7 @@ module _ (problem : Parts) where
       → LemmasFollow s.last lemmas → AllStandSaid problem (lemmas_said s lemmas)
   lemmas_stand [] s all follow = all
   lemmas_stand (lemma ∷ lemmas) s all follow =
-      lemmas_stand lemmas (lemma_said s lemma)
-      (
+      lemmas_stand lemmas (lemma_said s lemma) (
         record {
           next = follow.0;
           nodes = (walked (lemma_goal problem lemma.sender lemma.value) [] [] lemma.tree follow.1).stand;
@@ -219,8 +219,7 @@ module _ (problem : Parts) where
         lemmas_stand cert.lemmas (lines_said problem cert) nothing_stands (follow_none cert.lemmas stands.lemmas) in
         let main : TreeStands (main_goal problem (values_of problem cert.lemmas) best (may_leave_of cert.kind)) []
         tree =
-        subst (MainStands problem (values_of problem cert.lemmas) best (may_leave_of cert.kind)) is stands.main in
-        (
+        subst (MainStands problem (values_of problem cert.lemmas) best (may_leave_of cert.kind)) is stands.main in (
           record {
             next = tt;
             nodes =

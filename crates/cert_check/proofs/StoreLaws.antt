@@ -38,9 +38,9 @@ module _ (problem : Parts) (rows : List MatrixRow) (walk : CertWalk) (node : Nod
   -- after a tree that doesn't stand
   pub node_passed : walk.failed ≡ true → Stores problem rows walk (with_node node s)
   node_passed failed = record {
-    problem = stores.problem;
+    stands = stores.stands;
     sorted = stores.sorted;
-    rows = stores.rows;
+    some = stores.some;
     placed = stores.placed;
     kind = stores.kind;
     lines = stores.lines;
@@ -62,9 +62,9 @@ module _ (problem : Parts) (rows : List MatrixRow) (walk : CertWalk) (node : Nod
       (way_of problem walk.walk) (way_of problem now) (node ∷ [])) old.aim
       (subst (λ vs. Takes (goal_of problem vs walk.walk.aim) (way_of problem walk.walk) (way_of problem now)
       (node ∷ [])) old.used takes) in record {
-        problem = stores.problem;
+        stands = stores.stands;
         sorted = stores.sorted;
-        rows = stores.rows;
+        some = stores.some;
         placed = stores.placed;
         kind = stores.kind;
         lines = stores.lines;
@@ -127,9 +127,9 @@ module _ (problem : Parts) (rows : List MatrixRow) (walk : CertWalk) (s : Said)
   pub begun_failed : (AllStandSaid problem (begun aim last values s) → ⊥)
       → Stores problem rows (record walk { failed = true }) (begun aim last values s)
   begun_failed falls = record {
-    problem = stores.problem;
+    stands = stores.stands;
     sorted = stores.sorted;
-    rows = stores.rows;
+    some = stores.some;
     placed = stores.placed;
     kind = stores.kind;
     lines = stores.lines;
@@ -148,9 +148,9 @@ module _ (problem : Parts) (rows : List MatrixRow) (walk : CertWalk) (s : Said)
       → Stores problem rows (record walk { walk = now; last = sender }) (begun aim last values s)
   begun_stored stays next now sender walks begins same kept is used =
       let stay = none_falls walk stays in record {
-        problem = stores.problem;
+        stands = stores.stands;
         sorted = stores.sorted;
-        rows = stores.rows;
+        some = stores.some;
         placed = stores.placed;
         kind = stores.kind;
         lines = stores.lines;
@@ -258,9 +258,9 @@ module _ (problem : Parts) (rows : List MatrixRow) (walk : CertWalk) (line : Fra
       → (late : Bool) → late ≡ if_shown shows walk.late → (lines : ℕ) → lines ≡ min (walk.lines + 1) (2 ^ 32 - 1)
       → Stores problem rows (record walk { late = late; lines = lines }) (with_line line s)
   line_stored shows showing late is lines more = record {
-    problem = stores.problem;
+    stands = stores.stands;
     sorted = stores.sorted;
-    rows = stores.rows;
+    some = stores.some;
     placed = stores.placed;
     kind = stores.kind;
     lines = omega (arith, more, stores.lines, length_push s.lines line);
@@ -280,9 +280,9 @@ module _ (problem : Parts) (rows : List MatrixRow) (walk : CertWalk) (s : Said)
   pub kind_stored : (kind : Kind)
       → Stores problem rows (record walk { kind = kind }) (record s { kind = kind })
   kind_stored kind = record {
-    problem = stores.problem;
+    stands = stores.stands;
     sorted = stores.sorted;
-    rows = stores.rows;
+    some = stores.some;
     placed = stores.placed;
     kind = refl;
     lines = stores.lines;
@@ -295,9 +295,9 @@ module _ (problem : Parts) (rows : List MatrixRow) (walk : CertWalk) (s : Said)
 
   pub finish_stored : Stores problem rows (record walk { finished = true }) (record s { finished = true })
   finish_stored = record {
-    problem = stores.problem;
+    stands = stores.stands;
     sorted = stores.sorted;
-    rows = stores.rows;
+    some = stores.some;
     placed = stores.placed;
     kind = stores.kind;
     lines = stores.lines;

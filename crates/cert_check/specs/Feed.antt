@@ -11,8 +11,8 @@ use Rattle.cert_text.specs.Reading.{cert_of_text}
 use Rattle.bandwidth_bound.specs.Follows.{Holds}
 use Rattle.bandwidth_bound.specs.declared.verdict.Verdict.{Verdict}
 use Rattle.cert_check.specs.Accept.{IsFound, judged_of}
-use Rattle.cert_check.specs.declared.check_feed.FeedCheck.{FeedCheck}
-use Rattle.cert_check.specs.declared.check_feed.FeedCheck.TheVariants as feed
+use Rattle.cert_check.specs.declared.one_pass.FeedCheck.{FeedCheck}
+use Rattle.cert_check.specs.declared.one_pass.FeedCheck.TheVariants as feed
 use Rattle.cert_check.specs.declared.fault.CheckFault.{CheckFault}
 use Rattle.cert_check.specs.declared.fault.CheckFault.TheVariants as fault
 

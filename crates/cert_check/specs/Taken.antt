@@ -32,7 +32,7 @@ use Rattle.cert_check.specs.Walk.{IsWalk, goal_of, start, values_in, values_used
 -- the frames of an order, with a nominal bit
 pub record AreStages (frames : List Timed) (order : List ℕ) (bit : ℕ) : Type 0 where
   pub stages : (place : ℕ) → place < length order → IsStage frames order place
-  pub bit : IsBit frames bit
+  pub is_bit : IsBit frames bit
   pub few : length order ≤ 128
 
 -- the frames of a placed matrix: their times by label, their labels by ascending identifier, and their load
@@ -110,9 +110,9 @@ pub record IsInTree (problem : Parts) (walk : Walk) (values : List ℕ) (tree : 
 -- last lemma's sender and the place in the tree as long as all that was told of trees stands, and else that
 -- some of it doesn't; whether the end was said.
 pub record Stores (problem : Parts) (rows : List MatrixRow) (walk : CertWalk) (s : Said) : Type 0 where
-  pub problem : IsProblem problem
+  pub stands : IsProblem problem
   pub sorted : IsSorted problem.signals problem.items
-  pub rows : walk.has_rows ≡ has_row rows
+  pub some : walk.has_rows ≡ has_row rows
   pub placed : IsPlaced problem rows walk.placing
   pub kind : walk.kind ≡ s.kind
   pub lines : walk.lines ≡ min (length s.lines) (2 ^ 32 - 1)

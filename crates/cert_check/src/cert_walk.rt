@@ -1,5 +1,5 @@
 //! The walk over the events of a certificate.
-ghost use Rattle.std.specs.Prelude.{◌≡◌, ◌++◌, ◌∷◌, ◌||◌, [], List, ◌↔◌, IfOk, IsErrOf, IsTrue, OnOk};
+ghost use Rattle.std.specs.Prelude.{◌≡◌, ◌++◌, ◌∷◌, ◌||◌, [], List, Some, true, ◌↔◌, IfOk, IsErrOf, IsTrue, OnOk};
 ghost use Rattle.pack_model.specs.Problem.{Parts};
 ghost use Rattle.matrix_rows.specs.declared.matrix.MatrixRow.{MatrixRow};
 ghost use Rattle.cert_text.specs.declared.event.Event.{Event};

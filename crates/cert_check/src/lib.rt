@@ -7,10 +7,10 @@
 
 mod cert_walk;
 mod check;
-mod check_feed;
 mod fault;
 mod kinds;
 mod lemmas;
+mod one_pass;
 mod placing;
 mod timing;
 mod tree;
@@ -20,8 +20,8 @@ mod walk;
 pub use bandwidth_bound::Verdict;
 pub use cert_walk::CertWalk;
 pub use check::check_cert;
-pub use check_feed::{FeedCheck, check_feed};
 pub use fault::CheckFault;
+pub use one_pass::{FeedCheck, check_feed};
 
 #[cfg(test)]
 mod tests;

@@ -44,7 +44,7 @@ pub enum FeedCheck {
 }
 
 impl From<Memory> for FeedCheck {
-    ghost use Rattle.cert_check.specs.declared.check_feed.FeedCheck.TheVariants as feed;
+    ghost use Rattle.cert_check.specs.declared.one_pass.FeedCheck.TheVariants as feed;
 
     ghost from_gives = { λ _ e. e ≡ feed.Memory };
 

@@ -1,6 +1,6 @@
 use Rattle.cert_text.specs.Depths.{bytes_ahead}
 use Rattle.cert_check.proofs.FeedChecks.{TakesSoFar}
-use Rattle.cert_check.proofs.check_feed.check_feed.Given as goal
+use Rattle.cert_check.proofs.one_pass.check_feed.Given as goal
 
 -- the walk took the events so far
 abbrev pub invariant-loop-ended : goal.invariant-loop-ended
