@@ -1,7 +1,3 @@
-use Rattle.cert_check.proofs.FeedChecks.{one_more}
-use Rattle.cert_check.proofs.Judged.{holds_whole}
-use Rattle.cert_check.proofs.SaidLaws.{said_cert}
-use Rattle.cert_check.proofs.SaidTrees.{stand_trees}
 use Rattle.cert_check.proofs.StoreLaws.{kind_stored}
 use Rattle.cert_check.proofs.cert_walk.CertWalk.take_kind.Goals as goal
 
