@@ -7,6 +7,7 @@ use Rattle.pack_model.specs.Problem.{Parts, IsProblem, IsSorted}
 use Rattle.busy_period.specs.declared.timed.Timed.{Timed}
 use Rattle.response_test.specs.Frame.{IsShown}
 use Rattle.matrix_rows.specs.declared.matrix.MatrixRow.{MatrixRow}
+use Rattle.matrix_text.specs.Frames.{grouping_of}
 use Rattle.cert_text.specs.declared.parts.FrameLine.{FrameLine}
 use Rattle.cert_text.specs.declared.parts.Kind.{Kind}
 use Rattle.bandwidth_bound.specs.Trees.{Goal}
@@ -16,8 +17,10 @@ use Rattle.cert_check.specs.declared.walk.Aim.{Aim}
 use Rattle.cert_check.specs.declared.walk.Walk.{Walk}
 use Rattle.cert_check.specs.Nodes.{Node, NodesStand, Takes}
 use Rattle.cert_check.specs.Said.{Said, TreeSaid, lemma_aim, lemma_begun, tree_begun, with_line, with_node}
-use Rattle.cert_check.specs.Taken.{AllStandSaid, ComesNext, EachStandsSaid, IsInTree, IsLate, IsPlaced, IsPlacing, IsShowing, ShowFirst, ShowsAt, StandsSaid, Stores, goal_said}
+use Rattle.cert_check.specs.Taken.{AllStandSaid, ComesNext, EachStandsSaid, IsInTree, IsLate, IsPlaced, IsPlacing, IsShowing, ShowFirst, ShowsAt, StandsSaid, Stores, goal_said, load_in}
+use Rattle.cert_check.specs.Trees.{HasRoom}
 use Rattle.cert_check.specs.Walk.{IsWalk, Keeps, TakesOne, goal_of, goal_in, start, values_in, values_used, way_of}
+use Rattle.cert_check.proofs.Found.{load_fits}
 use Rattle.cert_check.proofs.Walks.{stand_first, takes_append, takes_none}
 
 -- ---- one more node
@@ -307,3 +310,11 @@ module _ (problem : Parts) (rows : List MatrixRow) (walk : CertWalk) (s : Said)
     falls = stores.falls;
     finished = refl;
   }
+
+-- ---- the load of the matrix
+
+pub has_room : (problem : Parts) (rows : List MatrixRow) (placing : Option Placing) → IsProblem problem
+    → IsPlaced problem rows placing → HasRoom (load_in placing)
+has_room problem rows None stands is = tt
+has_room problem rows (Some placing) stands is =
+    omega (arith, load_fits problem stands (grouping_of problem rows) is.legal, is.load)
