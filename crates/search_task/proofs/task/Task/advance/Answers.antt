@@ -1,5 +1,5 @@
-use Rattle.std.proofs.Common.{None, ◌∙◌, subst}
-use Rattle.search_judge.specs.Judges.{IsJudge}
+use Rattle.std.proofs.Common.{None, ◌∙◌, subst, sym}
+use Rattle.search_judge.specs.Judges.{IsJudge, JudgesOver}
 use Rattle.search_judge.proofs.Places.{steps_over}
 use Rattle.tree_search.specs.Shown.{items_of, start_of}
 use Rattle.search_task.specs.Task.{search_of, taken_over}
@@ -45,3 +45,11 @@ returns-clause-task c =
     (start_of c.in_ok-search.search)
     self.path.items c.in_ok-judge.judge c.in_ok-made.made x gives.0 is told.items told.start gives.1)
     (kept.at gives.0 gives.2) kept.open (kept.path ∙ told.path) (kept.lemmas ∙ told.lemmas)
+
+pub keep-requires-clause-suits : goal.keep-requires-clause-suits
+keep-requires-clause-suits c =
+    let problem = c.args.problem.now in
+    let begun = subst (λ items. JudgesOver problem items c.in_ok-judge.judge) (sym c.in_ok-search.ensures.items)
+    c.in_ok-judge.ensures.suits in
+    subst (λ items. JudgesOver problem items c.advance.new.judge) (sym c.in_ok-made.ensures.goes_on.items)
+    (c.in_ok-made.ensures.suits problem (items_of problem c.in_ok-search.search) begun)
