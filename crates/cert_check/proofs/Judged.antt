@@ -34,7 +34,7 @@ use Rattle.cert_check.specs.Trees.{IsAnswer, IsVerdict, TreeOfBest, least_left, 
 use Rattle.cert_check.specs.Walk.{way_of}
 use Rattle.cert_check.proofs.Found.{holds_placed, holds_without}
 use Rattle.cert_check.proofs.KindLaws.{best_is, found_by_trees, has_rows, lines_without, matrix_from, no_timing, rows_without, timing_from, timing_to, timing_without}
-use Rattle.cert_check.proofs.SaidTrees.{kind_kept, stand_trees, trees_stand, values_are}
+use Rattle.cert_check.proofs.SaidTrees.{kind_kept, lines_kept, stand_trees, trees_stand, values_are}
 use Rattle.cert_check.proofs.StoreLaws.{none_falls, some_falls, tree_stands}
 use Rattle.cert_check.proofs.TreeLaws.{none_open, some_open}
 use Rattle.cert_check.proofs.Walks.{tree_least}
@@ -306,6 +306,47 @@ module _ (problem : Parts) (rows : List MatrixRow) (walk : CertWalk) (cert : Cer
       by (Some tree) e some =
           subst (λ b. IsVerdict (TreesStand problem (load_in walk.placing) b cert) verdict.NoSolution answer)
           (ap may_leave_of is) (closed_verdict problem rows walk cert whole tree e verdict.NoSolution answer found)
+
+  -- by the kind that is stored
+  pub answer_by : (kind : Kind) → walk.kind ≡ kind → (answer : Result Verdict CheckFault)
+      → IsOfKind kind walk (load_in walk.placing) answer
+      → IsAnswer problem (load_in walk.placing) cert answer
+  answer_by kind is answer found =
+      let same : cert.kind ≡ kind = sym (kind_is problem rows walk cert whole) ∙ is in
+      subst (λ k. IsVerdict (TreeOfBest k problem (load_in walk.placing) cert)
+      (verdict_of k problem (load_in walk.placing) cert) answer) (sym same)
+      (answer_is kind same answer found)
+
+  -- ---- what is tested
+
+  -- of what was said
+  abbrev all_said : Said
+  all_said = cert_said problem (load_in walk.placing) cert
+
+  kind_said : all_said.kind ≡ cert.kind
+  kind_said = sym whole.stores.kind ∙ kind_is problem rows walk cert whole
+
+  lines_of_main : (tree : Option Plain) → (said_with problem rows walk cert whole tree).lines ≡ cert.frames
+  lines_of_main None = lines_kept problem cert.lemmas (lines_said problem cert)
+  lines_of_main (Some tree) = lines_kept problem cert.lemmas (lines_said problem cert)
+
+  -- the matrix
+  pub matrix_asked : (stands : Bool)
+      → ((s : Said) → Stores problem rows walk s → IsTrue stands ↔ MatrixOfKind s.kind problem rows)
+      → IsTrue stands ↔ MatrixOfKind cert.kind problem rows
+  matrix_asked stands asks =
+      subst (λ k. IsTrue stands ↔ MatrixOfKind k problem rows) kind_said (asks all_said whole.stores)
+
+  -- the times
+  pub timing_asked : (stands : Bool)
+      → ((s : Said) → Stores problem rows walk s → MatrixOfKind s.kind problem rows
+      → IsTrue stands ↔ TimingOfKind s.kind problem rows s.lines)
+      → MatrixOfKind cert.kind problem rows → IsTrue stands ↔ TimingOfKind cert.kind problem rows cert.frames
+  timing_asked stands asks matrix =
+      subst (λ ls. IsTrue stands ↔ TimingOfKind cert.kind problem rows ls) (lines_of_main cert.main_tree)
+      (subst (λ k. IsTrue stands ↔ TimingOfKind k problem rows all_said.lines) kind_said
+      (asks all_said whole.stores
+      (subst (λ k. MatrixOfKind k problem rows) (sym kind_said) matrix)))
 
   -- ---- all parts
 

@@ -10,5 +10,6 @@ pub mod Nexts
 pub mod SaidLaws
 pub mod SaidTrees
 pub mod StoreLaws
+pub mod StoreStart
 pub mod TreeLaws
 pub mod Walks

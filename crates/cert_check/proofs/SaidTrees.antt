@@ -79,10 +79,14 @@ module _ (problem : Parts) where
       )
       follow.2
 
-  -- the kind stays
+  -- the kind and the frame lines stay
   pub kind_kept : (lemmas : List (LemmaOf Plain)) (s : Said) → (lemmas_said s lemmas).kind ≡ s.kind
   kind_kept [] s = refl
   kind_kept (lemma ∷ lemmas) s = kind_kept lemmas (lemma_said s lemma)
+
+  pub lines_kept : (lemmas : List (LemmaOf Plain)) (s : Said) → (lemmas_said s lemmas).lines ≡ s.lines
+  lines_kept [] s = refl
+  lines_kept (lemma ∷ lemmas) s = lines_kept lemmas (lemma_said s lemma)
 
   -- ---- their values
 

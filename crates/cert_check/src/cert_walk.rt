@@ -332,8 +332,9 @@ impl CertWalk {
     /// Judges the trees, where matrix and times hold.
     fn judge_trees(&self) -> Result<Verdict, CheckFault>
         requires { (problem : Parts) × HasStored problem self.now }
-        ensures { (problem : Parts) (rows : List MatrixRow) (cert : CertParts) → IsWhole problem rows self.now cert
-            → IsAnswer problem (load_in self.now.placing) cert result }
+        ensures answers { (problem : Parts) (rows : List MatrixRow) (cert : CertParts)
+            → IsWhole problem rows self.now cert → IsAnswer problem (load_in self.now.placing) cert result }
+        ensures known { ¬ (IsErrOf result CheckFault.Memory) }
     {
         let best = self.best();
         let load = best.unwrap_or(0);

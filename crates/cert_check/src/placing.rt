@@ -2,6 +2,7 @@
 ghost use Rattle.std.specs.Prelude.{◌≡◌, ◌<◌, IfOk, IsTrue, ◌↔◌, length};
 ghost use Rattle.class_frame.specs.Classes.{frames_of_classes, load_of};
 ghost use Rattle.class_frame.specs.Grouping.{IsGrouping, IsOrder};
+ghost use Rattle.pack_model.specs.Problem.{IsProblem, IsSorted};
 ghost use Rattle.response_test.specs.Frame.{IsShown};
 ghost use Rattle.cert_check.specs.Taken.{AreStages, IsPlaced};
 
@@ -57,8 +58,9 @@ fn frames_of(
     ensures load { IfOk result (λ placing.
         placing.load ≡ load_of problem.now problem.now.items labels.now) }
 {
+    let hyper = problem.hyper();
     let frames = class_frames(alloc, problem, labels, order.len() as u32)?;
-    let load = load_of_frames(&frames, problem.hyper());
+    let load = load_of_frames(&frames, hyper);
     Ok(Placing {
         frames,
         order,
@@ -72,7 +74,9 @@ pub(crate) fn place(
     problem: &Problem,
     matrix: &Matrix,
 ) -> Result<Option<Placing>, Memory>
-    ensures { IfOk result (IsPlaced problem.now matrix.now) }
+    ensures placed { IfOk result (IsPlaced problem.now matrix.now) }
+    ensures stands { IsProblem problem.now }
+    ensures sorted { IsSorted problem.now.signals problem.now.items }
 {
     let items = problem.items().len();
     let mut labels = vec![in alloc; 0u32; items]?;

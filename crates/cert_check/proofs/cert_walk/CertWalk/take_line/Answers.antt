@@ -13,7 +13,7 @@ returns-clause-stores c = λ rows s stores.
           subst (λ (x : CertWalk). Stores c.args.problem.now rows
           (record x { lines = c.saturating_add-self.result }) (with_line c.args.line.now s)) (sym w.self-is)
           (line_stored c.args.problem.now rows c.args.self.now c.args.line.now s stores c.line_shows.result
-          c.line_shows.ensures true (ap (λ b. if_shown b c.args.self.now.late) (sym w.if-not-line_shows))
+          c.line_shows.ensures true (ap (λ b. if_shown b c.args.self.now.late) (sym w.if-not-line_shows.true))
           c.saturating_add-self.result
           (omega (arith, c.saturating_add-self.ensures, ap (λ (x : CertWalk). x.lines) w.self-is)))
     | else-not-line_shows w ↦
@@ -21,6 +21,6 @@ returns-clause-stores c = λ rows s stores.
         (record x { lines = c.saturating_add-self.result }) (with_line c.args.line.now s)) (sym w.self-is)
         (line_stored c.args.problem.now rows c.args.self.now c.args.line.now s stores c.line_shows.result
         c.line_shows.ensures c.args.self.now.late
-        (ap (λ b. if_shown b c.args.self.now.late) (sym w.if-not-line_shows)) c.saturating_add-self.result
+        (ap (λ b. if_shown b c.args.self.now.late) (sym w.if-not-line_shows.false)) c.saturating_add-self.result
         (omega (arith, c.saturating_add-self.ensures, ap (λ (x : CertWalk). x.lines) w.self-is)))
     ]
