@@ -1,5 +1,5 @@
 -- What a walk over events stores before the first.
-use Rattle.std.proofs.Common.{◌≡◌, Bool, false, List, [], length, Option, Some, None, replicate, refl, sym, subst, arith, true≢false}
+use Rattle.std.proofs.Common.{◌≡◌, Bool, false, List, [], ◌∷◌, length, Option, Some, None, replicate, refl, ap, sym, subst, arith, nat_eq, ne_eqb, not, true≢false}
 use Rattle.pack_model.specs.Problem.{Parts, IsProblem, IsSorted}
 use Rattle.matrix_rows.specs.declared.matrix.MatrixRow.{MatrixRow}
 use Rattle.cert_text.specs.declared.parts.Kind.TheVariants.{KindPlaced}
@@ -12,6 +12,11 @@ use Rattle.cert_check.specs.Said.{no_aim}
 use Rattle.cert_check.specs.Taken.{IsLate, IsPlaced, Taken}
 use Rattle.cert_check.specs.Walk.{IsWalk, goal_of, start, values_in, way_of}
 use Rattle.cert_check.proofs.Walks.{takes_none}
+
+-- whether a matrix has rows
+pub row_said : (rows : List MatrixRow) → not (nat_eq (length rows) 0) ≡ has_row rows
+row_said [] = refl
+row_said (row ∷ rows) = ap not (ne_eqb (length (row ∷ rows)) 0 (λ e. omega (arith, e)))
 
 -- each of no lines shows its frame
 none_late : (problem : Parts) (placing : Option Placing) → IsLate problem placing [] false

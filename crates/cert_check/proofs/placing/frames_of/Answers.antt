@@ -1,4 +1,4 @@
-use Rattle.std.proofs.Common.{◌∙◌, arith}
+use Rattle.std.proofs.Common.{arith}
 use Rattle.class_frame.proofs.ClassFrames.{few_classes}
 use Rattle.class_frame.proofs.GroupingLaws.{front_of, length-order}
 use Rattle.cert_check.proofs.placing.frames_of.Goals as goal
@@ -15,7 +15,12 @@ overflow_cast-len c =
 
 pub class_frames-requires-clause-classes : goal.class_frames-requires-clause-classes
 class_frames-requires-clause-classes c =
-    c.len.ensures ∙ length-order c.args.labels.now c.args.order.items c.requires.order
+    omega (
+      arith,
+      c.len.ensures,
+      c.args.order.ok.0,
+      length-order c.args.labels.now c.args.order.items c.requires.order,
+    )
 
 pub returns-clause-stages : goal.returns-clause-stages
 returns-clause-stages c = record {

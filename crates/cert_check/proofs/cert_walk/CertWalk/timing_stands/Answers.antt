@@ -1,4 +1,4 @@
-use Rattle.std.proofs.Common.{IsTrue, ap, false, length, not, nat_eq, subst, sym, true, ◌&&◌, ◌≡◌, ◌↔◌, ◌∙◌}
+use Rattle.std.proofs.Common.{IsTrue, ap, arith, false, length, not, nat_eq, subst, sym, true, ◌&&◌, ◌≡◌, ◌↔◌, ◌∙◌}
 use Rattle.bandwidth_bound.specs.Rule.{TimingOfKind}
 use Rattle.cert_check.specs.Kinds.{is_kind_placed}
 use Rattle.cert_check.specs.Taken.{IsLate, IsPlaced}
@@ -9,8 +9,10 @@ pub returns-then-not-self : goal.returns-then-not-self
 returns-then-not-self c = λ problem rows s stores matrix.
     let kind : is_kind_placed s.kind ≡ false =
     ap is_kind_placed (sym stores.kind) ∙ sym c.is_kind_placed.ensures ∙ c.if-is_kind_placed.false in
+    let long : length c.in-Some.placing.order.items ≡ c.len.result =
+    omega (arith, c.len.ensures, c.in-Some.placing.order.ok.0) in
     subst (λ n. IsTrue (nat_eq c.args.self.now.lines n) ↔ TimingOfKind s.kind problem rows s.lines)
-    (sym c.len.ensures)
+    long
     (subst (λ b. IsTrue (not b && nat_eq c.args.self.now.lines (length c.in-Some.placing.order.items))
     ↔ TimingOfKind s.kind problem rows s.lines) c.if-not-self.true
     (timing_some problem rows c.args.self.now s stores matrix c.in-Some.placing
