@@ -144,9 +144,10 @@ module _ (problem : Parts) (rows : List MatrixRow) (walk : CertWalk) (s : Said)
       stand : ShowFirst placing.frames.items placing.order.items problem.network.nominal_ticks s.lines
           → length s.lines ≡ length placing.order.items → TimingStands problem rows s.lines
       stand first all =
-          let moved : ShowFirst placing.frames.items (order_of problem rows) problem.network.nominal_ticks s.lines =
-          subst (λ o. ShowFirst placing.frames.items o problem.network.nominal_ticks s.lines) is.order first in
-          let here = subst (λ f. ShowFirst f (order_of problem rows) problem.network.nominal_ticks s.lines)
+          let bit = problem.network.nominal_ticks in
+          let moved : ShowFirst placing.frames.items (order_of problem rows) bit s.lines =
+          subst (λ o. ShowFirst placing.frames.items o bit s.lines) is.order first in
+          let here = subst (λ f. ShowFirst f (order_of problem rows) bit s.lines)
           is.frames moved in
           record { count = all ∙ ap length is.order; each = here.each }
 
@@ -154,7 +155,8 @@ module _ (problem : Parts) (rows : List MatrixRow) (walk : CertWalk) (s : Said)
           → ShowFirst placing.frames.items placing.order.items problem.network.nominal_ticks s.lines
       first stands =
           subst (λ f. ShowFirst f placing.order.items problem.network.nominal_ticks s.lines) (sym is.frames)
-          (subst (λ o. ShowFirst (frames_of_classes problem problem.items (grouping_of problem rows)) o problem.network.nominal_ticks s.lines) (sym is.order)
+          (subst (λ o. ShowFirst (frames_of_classes problem problem.items (grouping_of problem rows)) o
+          problem.network.nominal_ticks s.lines) (sym is.order)
           (record { few = omega (arith, stands.count); each = stands.each }))
 
       by : (b : Bool) → IsLate problem (Some placing) s.lines b

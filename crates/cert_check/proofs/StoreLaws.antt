@@ -92,12 +92,14 @@ module _ (problem : Parts) (rows : List MatrixRow) (walk : CertWalk) (node : Nod
 -- ---- a tree ends, and another one begins
 
 -- the tree that is being told doesn't stand
-pub tree_falls : (problem : Parts) (walk : Walk) (s : Said) → IsInTree problem walk s.values s.tree s.older → walk.failed ≡ true
+pub tree_falls : (problem : Parts) (walk : Walk) (s : Said)
+    → IsInTree problem walk s.values s.tree s.older → walk.failed ≡ true
     → ¬ AllStandSaid problem s
 tree_falls problem walk s old failed all = old.takes.fails refl failed all.0.nodes
 
 -- or stands with all others
-pub tree_stands : (problem : Parts) (walk : Walk) (s : Said) → IsInTree problem walk s.values s.tree s.older → walk.failed ≡ false
+pub tree_stands : (problem : Parts) (walk : Walk) (s : Said)
+    → IsInTree problem walk s.values s.tree s.older → walk.failed ≡ false
     → AllStandSaid problem s
 tree_stands problem walk s old stays =
     (record { next = old.next; nodes = old.takes.stands stays }, old.stand)
@@ -107,7 +109,8 @@ pub some_falls : (problem : Parts) (rows : List MatrixRow) (walk : CertWalk) (s 
     → Stores problem rows walk s → (walk.failed || walk.walk.failed) ≡ true → ¬ AllStandSaid problem s
 some_falls problem rows walk s stores falls = by walk.failed refl falls
   where
-    by : (failed : Bool) → walk.failed ≡ failed → (failed || walk.walk.failed) ≡ true → ¬ AllStandSaid problem s
+    by : (failed : Bool) → walk.failed ≡ failed → (failed || walk.walk.failed) ≡ true
+        → ¬ AllStandSaid problem s
     by true e f = stores.falls e
     by false e f = tree_falls problem walk.walk s (stores.in_tree e) f
 
@@ -186,7 +189,8 @@ module _ (frames : List Timed) (order : List ℕ) (bit : ℕ) (lines : List Fram
   shown_more : ShowFirst frames order bit lines → Shown → ShowFirst frames order bit (lines ++ line ∷ [])
   shown_more first shown = record {
     few = omega (arith, shown.0, length_push lines line);
-    each = λ place d inside. by place d (cases_lt place (length lines)) (omega (arith, inside, length_push lines line));
+    each = λ place d inside.
+        by place d (cases_lt place (length lines)) (omega (arith, inside, length_push lines line));
   }
     where
       by : (place : ℕ) (d : FrameLine) → (place < length lines) ⊎ (length lines ≤ place)
@@ -258,7 +262,8 @@ module _ (problem : Parts) (rows : List MatrixRow) (walk : CertWalk) (line : Fra
       omega (arith, late.few, placing.stages.few, stores.lines)
 
   pub line_stored : (shows : Bool) → IsShowing problem walk.placing walk.lines line shows
-      → (late : Bool) → late ≡ if_shown shows walk.late → (lines : ℕ) → lines ≡ min (walk.lines + 1) (2 ^ 32 - 1)
+      → (late : Bool) → late ≡ if_shown shows walk.late
+      → (lines : ℕ) → lines ≡ min (walk.lines + 1) (2 ^ 32 - 1)
       → Stores problem rows (record walk { late = late; lines = lines }) (with_line line s)
   line_stored shows showing late is lines more = record {
     stands = stores.stands;
@@ -269,7 +274,8 @@ module _ (problem : Parts) (rows : List MatrixRow) (walk : CertWalk) (line : Fra
     lines = omega (arith, more, stores.lines, length_push s.lines line);
     late =
         subst (IsLate problem walk.placing (s.lines ++ line ∷ [])) (sym is)
-        (late_more problem walk.placing s.lines line walk.late shows walk.lines stores.late next_place showing);
+        (late_more problem walk.placing s.lines line walk.late shows walk.lines stores.late next_place
+        showing);
     last = stores.last;
     in_tree = stores.in_tree;
     falls = stores.falls;

@@ -1,7 +1,7 @@
-use Rattle.std.proofs.Common.{Bool, ap, arith, refl, subst, sym, true}
+use Rattle.std.proofs.Common.{ap, arith, subst, sym, true}
 use Rattle.cert_check.specs.declared.cert_walk.CertWalk.{CertWalk}
 use Rattle.cert_check.specs.Said.{with_line}
-use Rattle.cert_check.specs.Taken.{IsShowing, Stores}
+use Rattle.cert_check.specs.Taken.{Stores}
 use Rattle.cert_check.proofs.StoreLaws.{if_shown, line_stored}
 use Rattle.cert_check.proofs.cert_walk.CertWalk.take_line.Goals as goal
 use Rattle.cert_check.proofs.cert_walk.CertWalk.take_line.Goals.{else-not-line_shows, then-not-line_shows}

@@ -1,4 +1,4 @@
-use Rattle.std.proofs.Common.{IsTrue, ap, arith, false, length, not, nat_eq, subst, sym, true, ◌&&◌, ◌≡◌, ◌↔◌, ◌∙◌}
+use Rattle.std.proofs.Common.{IsTrue, ap, arith, false, length, not, nat_eq, subst, sym, ◌&&◌, ◌≡◌, ◌↔◌, ◌∙◌}
 use Rattle.bandwidth_bound.specs.Rule.{TimingOfKind}
 use Rattle.cert_check.specs.Kinds.{is_kind_placed}
 use Rattle.cert_check.specs.Taken.{IsLate, IsPlaced}
