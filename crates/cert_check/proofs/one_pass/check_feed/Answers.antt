@@ -33,29 +33,31 @@ returns-in_err-event-clause-told g c =
     let s = c.loop-feed.invariant in
     let p = err_from_is_err_and c.from_residual-in_err-event.result c.from_residual-in_err-event.ensures.1 in
     rw (p.1, p.2) (refused_told s c.next.new.folder c.next.new.self c.in_err-event.field-0.0
-      (c.in_err-event.ensures.answer s.bytes s.events s.given))
+    (c.in_err-event.ensures.answer s.bytes s.events s.given))
 
 pub returns-in_err-event-clause-size : goal.returns-in_err-event-clause-size
 returns-in_err-event-clause-size g c =
     let s = c.loop-feed.invariant in
     let p = err_from_is_err_and c.from_residual-in_err-event.result c.from_residual-in_err-event.ensures.1 in
     rw (p.1, p.2) (refused_size s c.next.new.folder c.next.new.self c.in_err-event.field-0.0
-      (c.in_err-event.ensures.answer s.bytes s.events s.given))
+    (c.in_err-event.ensures.answer s.bytes s.events s.given))
 
 pub returns-in_err-event-clause-some : goal.returns-in_err-event-clause-some
 returns-in_err-event-clause-some g c =
     let s = c.loop-feed.invariant in
     let x = c.in_err-event.ensures.answer s.bytes s.events s.given in
     let p = err_from_is_err_and c.from_residual-in_err-event.result c.from_residual-in_err-event.ensures.1 in
-    rw (p.1, p.2) (s.bytes ++ x.more,
-      refused_some s c.next.new.folder c.next.new.self c.in_err-event.field-0.0 x)
+    rw (p.1, p.2) (
+      s.bytes ++ x.more,
+      refused_some s c.next.new.folder c.next.new.self c.in_err-event.field-0.0 x,
+    )
 
 pub returns-in_err-event-clause-quiet : goal.returns-in_err-event-clause-quiet
 returns-in_err-event-clause-quiet g c =
     let s = c.loop-feed.invariant in
     let p = err_from_is_err_and c.from_residual-in_err-event.result c.from_residual-in_err-event.ensures.1 in
     rw (p.1, p.2) (refused_quiet s c.next.new.folder c.next.new.self c.in_err-event.field-0.0
-      (c.in_err-event.ensures.answer s.bytes s.events s.given))
+    (c.in_err-event.ensures.answer s.bytes s.events s.given))
 
 -- ---- the walk denies
 
@@ -64,8 +66,8 @@ returns-in_err-shown-clause-told g c =
     let p = err_from_is_err_and c.from_residual-in_err-shown.result c.from_residual-in_err-shown.ensures.1 in
     let e = c.in_err-shown.ensures in
     rw (p.1, p.2) (denied_told c.loop-feed.invariant (sym c.loop-feed-test.ensures)
-      (Err c.in_err-shown.field-0.0) (e.found c.args.matrix.now) (e.holds c.args.matrix.now)
-      c.in_err-shown.field-0.0 refl)
+    (Err c.in_err-shown.field-0.0) (e.found c.args.matrix.now) (e.holds c.args.matrix.now)
+    c.in_err-shown.field-0.0 refl)
 
 pub returns-in_err-shown-clause-size : goal.returns-in_err-shown-clause-size
 returns-in_err-shown-clause-size g c =
@@ -75,17 +77,20 @@ returns-in_err-shown-clause-size g c =
     let y = c.loop-feed-test.false in
     let ended : c.loop-feed.feed.ended ≡ true = cc in
     rw (p.1, p.2) (denied_size c.loop-feed.invariant ended
-      (Err c.in_err-shown.field-0.0) (e.found c.args.matrix.now) (e.holds c.args.matrix.now)
-      c.in_err-shown.field-0.0)
+    (Err c.in_err-shown.field-0.0) (e.found c.args.matrix.now) (e.holds c.args.matrix.now)
+    c.in_err-shown.field-0.0)
 
 pub returns-in_err-shown-clause-some : goal.returns-in_err-shown-clause-some
 returns-in_err-shown-clause-some g c =
     let s = c.loop-feed.invariant in
     let p = err_from_is_err_and c.from_residual-in_err-shown.result c.from_residual-in_err-shown.ensures.1 in
     let e = c.in_err-shown.ensures in
-    rw (p.1, p.2) (s.bytes, denied_some s (sym c.loop-feed-test.ensures)
-      (Err c.in_err-shown.field-0.0) (e.found c.args.matrix.now) (e.holds c.args.matrix.now)
-      c.in_err-shown.field-0.0 refl)
+    rw (p.1, p.2) (
+      s.bytes,
+      denied_some s (sym c.loop-feed-test.ensures)
+          (Err c.in_err-shown.field-0.0) (e.found c.args.matrix.now) (e.holds c.args.matrix.now)
+          c.in_err-shown.field-0.0 refl,
+    )
 
 -- ---- the verdict
 
@@ -110,5 +115,5 @@ returns-clause-some g c =
     let e = c.in_ok-shown.ensures in (
       s.bytes,
       shown_some s (sym c.loop-feed-test.ensures) (Ok c.in_ok-shown.shown)
-      (e.found c.args.matrix.now) (e.holds c.args.matrix.now) c.in_ok-shown.shown refl,
+          (e.found c.args.matrix.now) (e.holds c.args.matrix.now) c.in_ok-shown.shown refl,
     )
