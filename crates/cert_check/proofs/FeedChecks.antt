@@ -1,9 +1,8 @@
 -- A certificate that is read piece by piece: what a feed gave so far and a walk took, and what is answered.
-use Rattle.std.proofs.Common.{◌≡◌, ◌≤◌, ◌<◌, ◌+◌, ◌^◌, ℕ, Bool, true, false, List, [], ◌∷◌, ◌++◌, length, Option, Some, None, Ok, Err, Result, refl, sym, ap, subst, ◌∙◌, arith, length-append, true≢false}
+use Rattle.std.proofs.Common.{◌≡◌, ◌<◌, ◌+◌, ◌^◌, ℕ, Bool, true, false, List, [], ◌∷◌, ◌++◌, length, Some, None, Ok, Err, Result, refl, sym, ap, subst, ◌∙◌, arith, length-append, true≢false}
 use Rattle.std.specs.Prelude.{IsSome, OnOk, IsErrOf}
 use Rattle.pack_model.specs.Problem.{Parts}
-use Rattle.pack_base.specs.Counts.{Rose}
-use Rattle.pack_base.specs.Outside.{Files, Later, SameFaults, bytes_at}
+use Rattle.pack_base.specs.Outside.{Files, SameFaults, bytes_at}
 use Rattle.matrix_rows.specs.declared.matrix.MatrixRow.{MatrixRow}
 use Rattle.cert_text.specs.declared.event.Event.{Event}
 use Rattle.cert_text.specs.declared.event.Event.TheVariants as event
@@ -11,12 +10,11 @@ use Rattle.cert_text.specs.declared.fault.FeedFault.{FeedFault}
 use Rattle.cert_text.specs.declared.fault.FeedFault.TheVariants as feed_fault
 use Rattle.cert_text.specs.declared.feed.CertFeed.{CertFeed}
 use Rattle.cert_text.specs.CertEvents.{cert_events}
-use Rattle.cert_text.specs.CertText.{CertRefusal, bad_line, cut}
 use Rattle.cert_text.specs.Depths.{is_last}
-use Rattle.cert_text.specs.Given.{Feeds, Given, IsNext, IsRefused, IsTextOf}
-use Rattle.cert_text.specs.Parts.{CertOf, CertParts, unmark_cert}
+use Rattle.cert_text.specs.Given.{Feeds, Given, IsRefused, IsTextOf}
+use Rattle.cert_text.specs.Parts.{CertOf, unmark_cert}
 use Rattle.cert_text.specs.Reading.{cert_of_text}
-use Rattle.cert_text.specs.Sources.{Begins, Ends, Reads, broke, cause, text_refusal}
+use Rattle.cert_text.specs.Sources.{Ends, Reads, cause, text_refusal}
 use Rattle.cert_text.specs.Trees.{Marked}
 use Rattle.cert_text.proofs.OfText.{text_parts}
 use Rattle.cert_text.proofs.SourceLaws.{ends_then, no_cause, reads_none, reads_then}

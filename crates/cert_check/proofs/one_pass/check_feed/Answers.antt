@@ -1,4 +1,4 @@
-use Rattle.std.proofs.Common.{◌≡◌, ◌++◌, Ok, Err, true, refl, sym}
+use Rattle.std.proofs.Common.{◌++◌, Ok, Err, refl, sym}
 use Rattle.std.proofs.lemmas.Result.{err_from_is_err_and}
 use Rattle.cert_check.proofs.FeedChecks.{none_so_far, one_more, refused_told, refused_size, refused_some, refused_quiet, shown_told, shown_size, shown_some, denied_told, denied_size, denied_some}
 use Rattle.cert_check.proofs.one_pass.check_feed.Goals as goal
@@ -73,10 +73,7 @@ pub returns-in_err-shown-clause-size : goal.returns-in_err-shown-clause-size
 returns-in_err-shown-clause-size g c =
     let p = err_from_is_err_and c.from_residual-in_err-shown.result c.from_residual-in_err-shown.ensures.1 in
     let e = c.in_err-shown.ensures in
-    let x = c.ended.ensures in
-    let y = c.loop-feed-test.false in
-    let ended : c.loop-feed.feed.ended ≡ true = cc in
-    rw (p.1, p.2) (denied_size c.loop-feed.invariant ended
+    rw (p.1, p.2) (denied_size c.loop-feed.invariant (sym c.loop-feed-test.ensures)
     (Err c.in_err-shown.field-0.0) (e.found c.args.matrix.now) (e.holds c.args.matrix.now)
     c.in_err-shown.field-0.0)
 
@@ -103,10 +100,7 @@ returns-clause-told g c =
 pub returns-clause-size : goal.returns-clause-size
 returns-clause-size g c =
     let e = c.in_ok-shown.ensures in
-    let x = c.ended.ensures in
-    let y = c.loop-feed-test.false in
-    let ended : c.loop-feed.feed.ended ≡ true = cc in
-    shown_size c.loop-feed.invariant ended (Ok c.in_ok-shown.shown)
+    shown_size c.loop-feed.invariant (sym c.loop-feed-test.ensures) (Ok c.in_ok-shown.shown)
     (e.found c.args.matrix.now) (e.holds c.args.matrix.now) c.in_ok-shown.shown
 
 pub returns-clause-some : goal.returns-clause-some
