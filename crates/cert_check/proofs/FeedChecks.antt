@@ -1,9 +1,8 @@
 -- A certificate that is read piece by piece: what a feed gave so far and a walk took, and what is answered.
-use Rattle.std.proofs.Common.{◌≡◌, ◌≤◌, ◌<◌, ◌+◌, ◌^◌, ℕ, Bool, true, false, List, [], ◌∷◌, ◌++◌, length, Option, Some, None, Ok, Err, Result, refl, sym, ap, subst, ◌∙◌, arith, length-append, true≢false}
+use Rattle.std.proofs.Common.{◌≡◌, ◌<◌, ◌+◌, ◌^◌, ℕ, Bool, true, false, List, [], ◌∷◌, ◌++◌, length, Some, None, Ok, Err, Result, refl, sym, ap, subst, ◌∙◌, arith, length-append, true≢false}
 use Rattle.std.specs.Prelude.{IsSome, OnOk, IsErrOf}
 use Rattle.pack_model.specs.Problem.{Parts}
-use Rattle.pack_base.specs.Counts.{Rose}
-use Rattle.pack_base.specs.Outside.{Files, Later, SameFaults, bytes_at}
+use Rattle.pack_base.specs.Outside.{Files, SameFaults, bytes_at}
 use Rattle.matrix_rows.specs.declared.matrix.MatrixRow.{MatrixRow}
 use Rattle.cert_text.specs.declared.event.Event.{Event}
 use Rattle.cert_text.specs.declared.event.Event.TheVariants as event
@@ -11,15 +10,14 @@ use Rattle.cert_text.specs.declared.fault.FeedFault.{FeedFault}
 use Rattle.cert_text.specs.declared.fault.FeedFault.TheVariants as feed_fault
 use Rattle.cert_text.specs.declared.feed.CertFeed.{CertFeed}
 use Rattle.cert_text.specs.CertEvents.{cert_events}
-use Rattle.cert_text.specs.CertText.{CertRefusal, bad_line, cut}
 use Rattle.cert_text.specs.Depths.{is_last}
-use Rattle.cert_text.specs.Given.{Feeds, Given, IsNext, IsRefused, IsTextOf}
-use Rattle.cert_text.specs.Parts.{CertOf, CertParts, unmark_cert}
+use Rattle.cert_text.specs.Given.{Feeds, Given, IsRefused, IsTextOf}
+use Rattle.cert_text.specs.Parts.{CertOf, unmark_cert}
 use Rattle.cert_text.specs.Reading.{cert_of_text}
-use Rattle.cert_text.specs.Sources.{Begins, Ends, Reads, broke, cause, text_refusal}
+use Rattle.cert_text.specs.Sources.{Ends, Reads, cause, text_refusal}
 use Rattle.cert_text.specs.Trees.{Marked}
 use Rattle.cert_text.proofs.OfText.{text_parts}
-use Rattle.cert_text.proofs.SourceLaws.{ends_then, reads_none, reads_then}
+use Rattle.cert_text.proofs.SourceLaws.{ends_then, no_cause, reads_none, reads_then}
 use Rattle.bandwidth_bound.specs.Follows.{Holds}
 use Rattle.bandwidth_bound.specs.declared.verdict.Verdict.{Verdict}
 use Rattle.cert_check.specs.declared.cert_walk.CertWalk.{CertWalk}
@@ -30,6 +28,21 @@ use Rattle.cert_check.specs.declared.fault.CheckFault.TheVariants as fault
 use Rattle.cert_check.specs.Accept.{IsFound, judged_of}
 use Rattle.cert_check.specs.Feed.{FeedFinds, IsFoundIn, IsOfSize, check_of_fault, check_of_feed}
 use Rattle.cert_check.specs.Taken.{HasOwnParts, Taken}
+
+-- ---- failed reads
+
+-- what is answered where the feed refuses
+abbrev pub refusal_is : FeedFault → Result Verdict FeedCheck
+refusal_is why = Err (check_of_feed why)
+
+-- a failed read is told
+failed_of_cause : (why : FeedFault) → cause why ≡ Some feed_fault.ReadFault
+    → refusal_is why ≡ Err feed.ReadFault
+failed_of_cause feed_fault.ReadFault failed = refl
+failed_of_cause feed_fault.TooLarge failed = cc
+failed_of_cause (feed_fault.BadLine n) failed = cc
+failed_of_cause feed_fault.Cut failed = cc
+failed_of_cause feed_fault.Memory failed = cc
 
 -- ---- the loop
 
@@ -59,6 +72,11 @@ none_so_far files r w g name here problem rows reader walk given goes_on taken =
   ends = λ e. absurd (true≢false (sym e ∙ goes_on));
 }
 
+-- how many turns are left at most, where so many bytes may come
+abbrev pub turns_left : Bool → ℕ → ℕ
+turns_left true ahead = 0
+turns_left false ahead = ahead + 1
+
 -- the last event is the end
 last_is : (e : Event) → is_last (Ok e) ≡ true → e ≡ event.Finish
 last_is (event.Head k) h = absurd (true≢false (sym h))
@@ -78,31 +96,25 @@ module _ {F : Type 0} {files : F → Files} {r w g : F → List ℕ → ℕ} {na
     (s : TakesSoFar files r w g name old now problem rows reader walk) where
   -- one event more
   pub one_more : (next : F) (after : CertFeed) (later : CertWalk) (e : Event)
-      → Feeds files r w g name now next after s.bytes s.events (Ok e) → after.ended ≡ is_last (Ok e)
-      → Taken later problem rows (s.events ++ e ∷ [])
+      → ((bytes : List ℕ) (events : List Event) → Given reader bytes events
+      → Feeds files r w g name now next after bytes events (Ok e))
+      → after.ended ≡ is_last (Ok e)
+      → ((matrix : List MatrixRow) (events : List Event) → Taken walk problem matrix events
+      → Taken later problem matrix (events ++ e ∷ []))
       → TakesSoFar files r w g name old next problem rows after later
-  one_more next after later e feeds ended taken = record {
-    bytes = s.bytes ++ feeds.more;
-    events = s.events ++ e ∷ [];
-    given = feeds.answer.given;
-    taken = taken;
-    reads = reads_then s.reads feeds.reads (omega arith);
-    text = λ is. feeds.answer.text (last_is e (sym ended ∙ is));
-    ends = λ is.
-        ends_then (length s.bytes) feeds.more s.reads (feeds.answer.ends (last_is e (sym ended ∙ is)))
-        (omega arith);
-  }
-
-  -- the file begins with what was read
-  begins : IsSome (files old) → Begins s.bytes (bytes_at (files old) name)
-  begins told = s.reads.front told [] refl (bytes_at (files old) name, refl)
-
-  -- what was read when a call broke off
-  all_read : (next : F) (after : CertFeed) (why : FeedFault)
-      → Feeds files r w g name now next after s.bytes s.events (Err why)
-      → (more : List ℕ) × Reads files r w g name 0 old next (cause why) (s.bytes ++ more)
-      × IsRefused (files now) name (length s.bytes) more (s.bytes ++ more) (text_refusal why)
-  all_read next after why feeds = (feeds.more, reads_then s.reads feeds.reads (omega arith), feeds.answer)
+  one_more next after later e answer ended takes =
+      let feeds : Feeds files r w g name now next after s.bytes s.events (Ok e) =
+      answer s.bytes s.events s.given in record {
+        bytes = s.bytes ++ feeds.more;
+        events = s.events ++ e ∷ [];
+        given = feeds.answer.given;
+        taken = takes rows s.events s.taken;
+        reads = reads_then s.reads feeds.reads (omega arith);
+        text = λ is. feeds.answer.text (last_is e (sym ended ∙ is));
+        ends = λ is.
+            ends_then (length s.bytes) feeds.more s.reads (feeds.answer.ends (last_is e (sym ended ∙ is)))
+            (omega arith);
+      }
 
   -- a file that was read to its end
   whole : (more : List ℕ) → IsSome (files old) → Ends (files now) name (length s.bytes) more
@@ -152,12 +164,19 @@ module _ {F : Type 0} {files : F → Files} {r w g : F → List ℕ → ℕ} {na
             let front = reads.front told [] refl (bytes_at (files old) name, refl) in
             omega (arith, long, ap length front.1, length-append (s.bytes ++ feeds.more) front.0)
         by (feed_fault.BadLine n) refused reads =
-            let short = reads.within (λ e. let h : None ≡ Some feed_fault.TooLarge = e in absurd cc) in
+            let short = reads.within (no_cause feed_fault.TooLarge) in
             omega (arith, short, ap length (whole feeds.more told refused.1))
         by feed_fault.Cut refused reads =
-            let short = reads.within (λ e. let h : None ≡ Some feed_fault.TooLarge = e in absurd cc) in
+            let short = reads.within (no_cause feed_fault.TooLarge) in
             omega (arith, short, ap length (whole feeds.more told refused.1))
         by feed_fault.Memory refused reads = tt
+
+    -- no read failed but where it is told
+    pub refused_quiet : (IsErrOf (refusal_is why) feed.ReadFault → ⊥) → SameFaults r w old next
+    refused_quiet calm =
+        let reads : Reads files r w g name 0 old next (cause why) (s.bytes ++ feeds.more) =
+        reads_then s.reads feeds.reads (omega arith) in
+        reads.quiet (λ failed. calm (failed_of_cause why failed))
 
   -- ---- at the end
 
@@ -186,7 +205,7 @@ module _ {F : Type 0} {files : F → Files} {r w g : F → List ℕ → ℕ} {na
 
     short : IsSome (files old) → length (bytes_at (files old) name) < 2 ^ 63
     short told =
-        let within = s.reads.within (λ e. let h : None ≡ Some feed_fault.TooLarge = e in absurd cc) in
+        let within = s.reads.within (no_cause feed_fault.TooLarge) in
         omega (arith, within, ap length (file_is told))
 
     -- the answer of bytes
