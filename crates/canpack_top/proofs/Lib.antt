@@ -6,6 +6,7 @@ pub mod Accepted
 pub mod Runs
 pub mod Said
 pub mod Promised
+pub mod Judging
 pub mod CommandLaws
 pub mod Made
 pub mod MakeLaws

@@ -8,7 +8,7 @@ ghost use Rattle.canpack_top.specs.Verdict.{IsShown};
 
 use crate::command::Names;
 use crate::ending::{Answer, Halt, Status, Stop};
-use crate::files::{cert_at, matrix_at};
+use crate::files::matrix_at;
 use crate::problem::read_problem;
 use crate::stopping::answer_of;
 use crate::verdict::{Found, found_line, judge};
@@ -23,7 +23,7 @@ pub struct Judgement {
     pub hyper: u64,
 }
 
-/// Reads the four files, and judges the matrix and the certificate.
+/// Reads the four files, and judges the matrix and the certificate, which is read last and piece by piece.
 #[tactic(auto, using(crate::proofs::ReadTwice::reads_trans), unfolding(crate::specs::Check::texts_at))]
 fn judgement_at<F: Folder>(
     alloc: Global,
@@ -41,8 +41,7 @@ fn judgement_at<F: Folder>(
 {
     let problem = read_problem(alloc, folder, names)?;
     let matrix = matrix_at(alloc, folder, names.matrix)?;
-    let cert = cert_at(alloc, folder, names.cert)?;
-    let found = judge(alloc, &problem, &matrix, &cert)?;
+    let found = judge(alloc, folder, &problem, &matrix, names.cert)?;
     Ok(Judgement {
         found,
         hyper: problem.hyper(),

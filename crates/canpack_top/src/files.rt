@@ -1,16 +1,15 @@
-//! The four files of a command: each is read whole, and its text read.
+//! The files of a command that are read whole, and their texts read: all but CERT.
 ghost use Rattle.std.specs.Prelude.{◌≡◌, IfOk, IsSome, IsErrOf, All};
 ghost use Rattle.pack_model.specs.Network.{NetworkStands};
 ghost use Rattle.pack_model.specs.Signal.{SignalStands};
-ghost use Rattle.canpack_top.specs.Files.{cert_at, matrix_at, network_at, signals_at};
+ghost use Rattle.canpack_top.specs.Files.{matrix_at, network_at, signals_at};
 ghost use Rattle.canpack_top.specs.Ending.{Gives};
 ghost use Rattle.canpack_top.specs.Reads.{FaultAt, ReadsOnly};
 
 use crate::ending::Stop;
 use crate::reading::read_file;
 use crate::refusal::Role;
-use crate::texts::{cert_in, matrix_in, network_in, signals_in};
-use cert_text::Cert;
+use crate::texts::{matrix_in, network_in, signals_in};
 use matrix_text::Matrix;
 use pack_base::Folder;
 use pack_model::{Network, Signal};
@@ -19,7 +18,7 @@ use std::alloc::Global;
 /// The greatest length of NETWORK and of SIGNALS, in bytes.
 const TEXT_LIMIT: u64 = 16_777_216;
 
-/// The greatest length of MATRIX and of CERT, in bytes.
+/// The greatest length of MATRIX, in bytes.
 const SIZE_LIMIT: u64 = (1 << 63) - 1;
 
 /// The network of a file.
@@ -61,17 +60,4 @@ pub fn matrix_at<F: Folder>(alloc: Global, folder: &mut F, name: &str) -> Result
 {
     let text = read_file(alloc, folder, name, SIZE_LIMIT, Role::Matrix)?;
     matrix_in(alloc, &text)
-}
-
-/// The certificate of a file.
-#[tactic(auto, unfolding(crate::specs::Files::cert_at))]
-pub fn cert_at<F: Folder>(alloc: Global, folder: &mut F, name: &str) -> Result<Cert, Stop>
-    ensures exact { IsSome (F.files folder.old)
-        → Gives (λ cert. cert) result (cert_at (F.files folder.old) name.now) }
-    ensures read_fault { IsErrOf result Stop.ReadFault
-        → FaultAt (F.read_faults folder.old) (F.read_faults folder.new) name.now }
-    ensures only { ReadsOnly F.files F.read_faults F.write_faults F.given folder.old folder.new }
-{
-    let text = read_file(alloc, folder, name, SIZE_LIMIT, Role::Cert)?;
-    cert_in(alloc, &text)
 }

@@ -1,15 +1,12 @@
-//! The four texts.
+//! The texts that are read whole: all but CERT's.
 ghost use Rattle.std.specs.Prelude.{◌≡◌, IfOk, All, option_map};
 ghost use Rattle.pack_model.specs.Network.{NetworkStands};
 ghost use Rattle.pack_model.specs.Signal.{SignalStands};
 ghost use Rattle.input_text.specs.NetworkText.{network_refusal};
 ghost use Rattle.input_text.specs.SignalsText.{signals_refusal};
 ghost use Rattle.matrix_text.specs.MatrixText.{matrix_refusal};
-ghost use Rattle.cert_text.specs.CertText.{cert_refusal};
 ghost use Rattle.canpack_top.specs.Ending.{Says, stop_of};
 ghost use Rattle.canpack_top.specs.Text.{
-  cert_in,
-  cert_refused,
   matrix_in,
   matrix_refused,
   network_in,
@@ -20,7 +17,6 @@ ghost use Rattle.canpack_top.specs.Text.{
 
 use crate::ending::Stop;
 use crate::refusal::{Refusal, Role};
-use cert_text::{Cert, CertFault, read_cert};
 use input_text::{NetworkFault, SignalsFault, read_network, read_signals};
 use matrix_text::{Matrix, MatrixFault, read_matrix};
 use pack_model::{Network, Signal};
@@ -100,27 +96,5 @@ pub fn matrix_in(alloc: Global, text: &[u8]) -> Result<Matrix, Stop>
     match read_matrix(alloc, text) {
         Ok(matrix) => Ok(matrix),
         Err(fault) => Err(matrix_stop(fault)),
-    }
-}
-
-/// The refusal of CERT, or want of memory.
-fn cert_stop(fault: CertFault) -> Stop
-    ensures { result ≡ stop_of (option_map cert_refused (cert_refusal fault)) }
-{
-    match fault {
-        CertFault::BadLine(line) => Stop::Refused(Refusal::BadLine(line)),
-        CertFault::Cut => Stop::Refused(Refusal::Cut),
-        CertFault::Memory => Stop::Memory,
-    }
-}
-
-/// The certificate of a text.
-#[tactic(auto, using(crate::proofs::Stops::says_stop), unfolding(crate::specs::Text::cert_in))]
-pub fn cert_in(alloc: Global, text: &[u8]) -> Result<Cert, Stop>
-    ensures exact { Says (λ cert. cert) result (cert_in text.now) }
-{
-    match read_cert(alloc, text) {
-        Ok(cert) => Ok(cert),
-        Err(fault) => Err(cert_stop(fault)),
     }
 }

@@ -1,19 +1,21 @@
 //! What the acceptance rule finds of a certificate, and its lines.
-ghost use Rattle.std.specs.Prelude.{◌≡◌, ◌^◌, ◌<◌, IfOk, string_bytes};
-ghost use Rattle.bandwidth_bound.specs.Follows.{Holds};
+ghost use Rattle.std.specs.Prelude.{◌≡◌, ◌^◌, ◌<◌, IfOk, IsErrOf, IsSome, string_bytes};
+ghost use Rattle.canpack_top.specs.Files.{cert_at};
+ghost use Rattle.canpack_top.specs.Reads.{FaultAt, ReadsOnly};
 ghost use Rattle.canpack_top.specs.Verdict.{
-  Finds,
-  IsShown,
+  IsJudged,
   found_line,
   found_of,
   rejected_line,
   verdict_line,
 };
 
+use crate::ending::Stop;
+use crate::refusal::{Refusal, Role};
 use bandwidth_bound::{Part, Verdict};
-use cert_check::{CheckFault, check_cert};
-use cert_text::Cert;
+use cert_check::{FeedCheck, check_feed};
 use matrix_text::Matrix;
+use pack_base::Folder;
 use pack_model::{Memory, Problem};
 use std::alloc::{AllocError, Global};
 
@@ -26,36 +28,39 @@ pub enum Found {
     Rejected(Part),
 }
 
-/// What the checker answered; none exactly where memory ran out.
-fn found_of(answer: Result<Verdict, CheckFault>) -> Option<Found>
+/// What the checker answered of a certificate's file: what was found, or why the reading stops.
+fn found_of(answer: Result<Verdict, FeedCheck>) -> Result<Found, Stop>
     ensures { result ≡ found_of answer }
 {
     match answer {
-        Ok(shown) => Some(Found::Shown(shown)),
-        Err(CheckFault::RejectedMatrix) => Some(Found::Rejected(Part::Matrix)),
-        Err(CheckFault::RejectedTiming) => Some(Found::Rejected(Part::Timing)),
-        Err(CheckFault::RejectedTree) => Some(Found::Rejected(Part::Tree)),
-        Err(CheckFault::Memory) => None,
+        Ok(shown) => Ok(Found::Shown(shown)),
+        Err(FeedCheck::RejectedMatrix) => Ok(Found::Rejected(Part::Matrix)),
+        Err(FeedCheck::RejectedTiming) => Ok(Found::Rejected(Part::Timing)),
+        Err(FeedCheck::RejectedTree) => Ok(Found::Rejected(Part::Tree)),
+        Err(FeedCheck::TooLarge) => Err(Stop::Refused(Refusal::TooLarge(Role::Cert))),
+        Err(FeedCheck::BadLine(line)) => Err(Stop::Refused(Refusal::BadLine(line))),
+        Err(FeedCheck::Cut) => Err(Stop::Refused(Refusal::Cut)),
+        Err(FeedCheck::ReadFault) => Err(Stop::ReadFault),
+        Err(FeedCheck::Memory) => Err(Stop::Memory),
     }
 }
 
-/// Judges a certificate: what it shows of a problem's matrix, or the first part of the acceptance rule that doesn't
-/// hold.
-pub fn judge(
+/// Judges the certificate of a file, which is read piece by piece: what it shows of a problem's matrix, or the first
+/// part of the acceptance rule that doesn't hold.
+pub fn judge<F: Folder>(
     alloc: Global,
+    folder: &mut F,
     problem: &Problem,
     matrix: &Matrix,
-    cert: &Cert,
-) -> Result<Found, Memory>
-    ensures finds { IfOk result (λ what. Finds what
-        (record { problem = problem.now; matrix = matrix.now; cert = cert.now })) }
-    ensures holds { IfOk result (λ what. IsShown what
-        → Holds (record { problem = problem.now; matrix = matrix.now; cert = cert.now })) }
+    name: &str,
+) -> Result<Found, Stop>
+    ensures exact { IsSome (F.files folder.old)
+        → IsJudged result problem.now matrix.now (cert_at (F.files folder.old) name.now) }
+    ensures read_fault { IsErrOf result Stop.ReadFault
+        → FaultAt (F.read_faults folder.old) (F.read_faults folder.new) name.now }
+    ensures only { ReadsOnly F.files F.read_faults F.write_faults F.given folder.old folder.new }
 {
-    match found_of(check_cert(alloc, problem, matrix, cert)) {
-        Some(found) => Ok(found),
-        None => Err(Memory),
-    }
+    found_of(check_feed(alloc, problem, matrix, folder, name))
 }
 
 fn verdict_text(alloc: Global, shown: Verdict, hyper: u64) -> Result<String, AllocError>

@@ -34,7 +34,7 @@ value_last (first ∷ front) lemma before =
     ∙ value_last front lemma (All-tail (λ (l : LemmaOf Plain). l.sender < lemma.sender) first front before)
 
 -- the values with one more lemma, whose sender comes after all others
-values_more : (problem : Parts) (front : List (LemmaOf Plain)) (lemma : LemmaOf Plain)
+pub values_more : (problem : Parts) (front : List (LemmaOf Plain)) (lemma : LemmaOf Plain)
     → All (λ (l : LemmaOf Plain). l.sender < lemma.sender) front → lemma.sender < length problem.senders
     → values_of problem (front ++ lemma ∷ []) ≡ set (values_of problem front) lemma.sender lemma.value
 values_more problem front lemma before there =

@@ -1,9 +1,15 @@
 pub mod AcceptedLaws
 pub mod BusLaws
+pub mod FeedChecks
 pub mod Found
+pub mod Judged
 pub mod KindLaws
 pub mod LemmaLaws
 pub mod Lines
 pub mod Nexts
+pub mod SaidLaws
+pub mod SaidTrees
+pub mod StoreLaws
+pub mod StoreStart
 pub mod TreeLaws
 pub mod Walks

@@ -16,6 +16,11 @@ is_to_be_placed KindBetween (row ∷ rows) = true
 is_to_be_placed KindBest rows = true
 is_to_be_placed KindNoSolution rows = false
 
+-- the matrix has rows
+abbrev pub has_row : List MatrixRow → Bool
+has_row [] = false
+has_row (row ∷ rows) = true
+
 -- the kind is `placed`, whose frames are not judged
 abbrev pub is_kind_placed : Kind → Bool
 is_kind_placed KindPlaced = true

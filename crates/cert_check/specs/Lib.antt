@@ -1,7 +1,10 @@
 pub mod Accept
+pub mod Feed
 pub mod Kinds
 pub mod Laws
 pub mod Nodes
+pub mod Said
+pub mod Taken
 pub mod Timing
 pub mod Trees
 pub mod Walk

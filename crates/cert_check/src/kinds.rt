@@ -1,6 +1,7 @@
 //! Which parts are judged of a kind of certificate.
 ghost use Rattle.std.specs.Prelude.{◌≡◌};
 ghost use Rattle.cert_check.specs.Kinds.{FailsWithoutRows, is_kind_placed, is_to_be_placed};
+ghost use Rattle.cert_check.specs.Said.{may_leave_of};
 
 use crate::fault::CheckFault;
 use cert_text::{FrameLine, Kind};
@@ -14,6 +15,16 @@ pub(crate) fn is_to_be_placed(kind: Kind, rows: &[MatrixRow]) -> bool
         Kind::KindPlaced | Kind::KindTimed | Kind::KindBest => true,
         Kind::KindBetween => !rows.is_empty(),
         Kind::KindNoSolution => false,
+    }
+}
+
+/// Whether leaves of the main tree may be left open.
+pub(crate) fn may_leave(kind: Kind) -> bool
+    ensures { result ≡ may_leave_of kind }
+{
+    match kind {
+        Kind::KindBetween => true,
+        Kind::KindPlaced | Kind::KindTimed | Kind::KindBest | Kind::KindNoSolution => false,
     }
 }
 

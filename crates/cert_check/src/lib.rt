@@ -5,20 +5,25 @@
 //! follows from it holds. The law [`accepted_holds`] says this of whatever the rule accepts.
 #![tactic(auto)]
 
+mod cert_walk;
 mod check;
 mod fault;
 mod kinds;
 mod laws;
 mod lemmas;
+mod one_pass;
+mod placing;
 mod timing;
 mod tree;
 mod trees;
 mod walk;
 
 pub use bandwidth_bound::Verdict;
+pub use cert_walk::CertWalk;
 pub use check::check_cert;
 pub use fault::CheckFault;
 pub use laws::accepted_holds;
+pub use one_pass::{FeedCheck, check_feed};
 
 #[cfg(test)]
 mod tests;

@@ -15,7 +15,7 @@ use pack_model::Problem;
 use std::alloc::Global;
 
 /// A load in eighths.
-fn in_eighths(best: Option<u128>) -> Option<u128>
+pub(crate) fn in_eighths(best: Option<u128>) -> Option<u128>
     requires { HasRoom best }
     ensures { result ≡ eighths best }
 {
@@ -26,7 +26,7 @@ fn in_eighths(best: Option<u128>) -> Option<u128>
 }
 
 /// The lesser of a bound in eighths and of the load of the best, if there is one.
-fn lower_with(best: Option<u128>, least: u128) -> u128
+pub(crate) fn lower_with(best: Option<u128>, least: u128) -> u128
     requires { HasRoom best }
     ensures { result ≡ lower_with best least }
 {
