@@ -1,5 +1,5 @@
 -- Laws of stages and of their demand.
-use Rattle.std.proofs.Common.{◌≡◌, ℕ, ◌+◌, ◌*◌, ◌<◌, ◌≤◌, List, length, take, drop, get_or, nat_eq, true, ap, Option, Some, None, IfSome, IfNone, arith, add-zero, length-take, length-drop}
+use Rattle.std.proofs.Common.{◌≡◌, ℕ, ◌+◌, ◌-◌, ◌*◌, ◌<◌, ◌≤◌, List, length, take, drop, get_or, nat_eq, true, ap, Option, Some, None, IfSome, IfNone, arith, add-zero, length-take, length-drop}
 use Rattle.std.proofs.lemmas.List.Elements.{All-take, All-drop, All-contains, All-get_or}
 use Rattle.std.proofs.lemmas.List.Sums.{sum_by-le-sum_by, sum_by_more}
 use Rattle.std.proofs.lemmas.Bool.{eqb-true}
@@ -11,7 +11,7 @@ use Rattle.busy_period.specs.Timed.{IsInRange, none_frame, frame_at}
 use Rattle.busy_period.specs.Stage.{AreNamed, IsStage, IsSameSet, own_number, own_of, higher_of, lower_of}
 use Rattle.busy_period.specs.Demand.{asks_of, work_of, blocking_of, demand_against, demand_of}
 use Rattle.busy_period.specs.Least.{IsLeast}
-use Rattle.busy_period.specs.Busy.{IsFit, IsBusy, IsShortBusy, LeastBusy}
+use Rattle.busy_period.specs.Busy.{IsFit, IsMadeUp, IsBusy, IsShortBusy, LeastBusy}
 use Rattle.busy_period.proofs.Instances.{asks-le}
 use Rattle.busy_period.proofs.Sums.{sum_by-same_set}
 
@@ -103,6 +103,42 @@ pub fit-above : (frames : List Timed) (numbers : List ℕ) (base ahead from earl
     → base + work_of frames numbers (earlier + ahead) ≤ time
 fit-above frames numbers base ahead from earlier time fit le =
     omega (arith, fit.done, work-le frames numbers (earlier + ahead) (time + ahead) (omega arith))
+
+-- a gap that is left at a time is made up for where base and work fit
+pub made_up-by-fit : (frames : List Timed) (numbers : List ℕ) (base ahead from now gap time : ℕ)
+    → now + gap ≡ base + work_of frames numbers (now + ahead)
+    → IsFit frames numbers base ahead from time → now ≤ time
+    → IsMadeUp frames numbers (now + ahead) gap (time - now)
+made_up-by-fit frames numbers base ahead from now gap time left fit le =
+    let same : now + ahead + (time - now) ≡ time + ahead = omega arith in
+    let work : work_of frames numbers (now + ahead + (time - now)) ≡ work_of frames numbers (time + ahead) =
+    ap (work_of frames numbers) same in
+    omega (arith, fit.done)
+
+-- so no fit is before what no gap is made up before
+pub fit-after : (frames : List Timed) (numbers : List ℕ) (base ahead from now gap leap time : ℕ)
+    → now + gap ≡ base + work_of frames numbers (now + ahead)
+    → ((more : ℕ) → IsMadeUp frames numbers (now + ahead) gap more → leap ≤ more)
+    → IsFit frames numbers base ahead from time → now ≤ time → now + leap ≤ time
+fit-after frames numbers base ahead from now gap leap time left before fit le =
+    omega (arith, before (time - now) (made_up-by-fit frames numbers base ahead from now gap time left fit le))
+
+-- a gap takes as long as it is
+pub gap-le-made_up : (frames : List Timed) (numbers : List ℕ) (time gap more : ℕ)
+    → IsMadeUp frames numbers time gap more → gap ≤ more
+gap-le-made_up frames numbers time gap more made =
+    omega (arith, work-le frames numbers time (time + more) (omega arith))
+
+-- the least fit from a time that no fit is before
+pub least_from_later : (frames : List Timed) (numbers : List ℕ) (base ahead from start time : ℕ)
+    → from ≤ start → ((t : ℕ) → IsFit frames numbers base ahead from t → start ≤ t)
+    → IsLeast (IsFit frames numbers base ahead start) time
+    → IsLeast (IsFit frames numbers base ahead from) time
+least_from_later frames numbers base ahead from start time le below least =
+    record {
+      holds = record { begun = omega (arith, least.holds.begun); done = least.holds.done };
+      least = λ t fit. least.least t (record { begun = below t fit; done = fit.done });
+    }
 
 -- what fits for a frame and those above it is a busy period of the frame
 pub busy_from_fit : (frames : List Timed) (order : List ℕ) (place blocked time : ℕ) → place < length order

@@ -10,6 +10,11 @@ pub record IsFit (frames : List Timed) (numbers : List ℕ) (base ahead from tim
   pub begun : from ≤ time
   pub done : base + work_of frames numbers (time + ahead) ≤ time
 
+-- so many ticks after a time at which a gap is left, the gap and all that the frames ask for meanwhile are done
+abbrev pub IsMadeUp : List Timed → List ℕ → ℕ → ℕ → ℕ → Type 0
+IsMadeUp frames numbers time gap more =
+    work_of frames numbers (time + more) + gap ≤ work_of frames numbers time + more
+
 -- after a time of at least one tick all that was asked for within it is done
 pub record IsBusy (demand : ℕ → ℕ) (time : ℕ) : Type 0 where
   pub some : 1 ≤ time

@@ -10,6 +10,7 @@
 #![tactic(auto)]
 
 mod laws;
+mod leap;
 mod level;
 mod line;
 mod period;

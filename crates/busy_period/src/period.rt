@@ -3,9 +3,13 @@ ghost use Rattle.busy_period.specs.Stage.{AreNamed, IsStage};
 ghost use Rattle.busy_period.specs.Least.{IsLeast};
 ghost use Rattle.busy_period.specs.Busy.{IsFit, FrameBusy, FrameLeastBusy};
 
+use crate::leap::climb_by_leaps;
 use crate::level::{blocking, demand, work};
 use crate::line::climb_start;
 use crate::timed::Timed;
+
+/// The steps of a climb that are plain, since most climbs end within them.
+const PLAIN_STEPS: u32 = 16;
 
 /// The most instances of a frame in a busy period that counts.
 pub const MAX_INSTANCES: u64 = 256;
@@ -30,7 +34,10 @@ pub fn least_fit(
         ((time : ℕ) → IsFit frames.now numbers.now base ahead from time → limit < time) }
 {
     let mut time = climb_start(frames, numbers, base, ahead, from, limit)?;
-    while time <= limit {
+    if time > limit {
+        return None;
+    }
+    for _ in 0..PLAIN_STEPS {
         let asked = u128::from(base) + work(frames, numbers, time + ahead);
         if asked <= u128::from(time) {
             return Some(time);
@@ -40,7 +47,7 @@ pub fn least_fit(
         }
         time = asked as u64;
     }
-    None
+    climb_by_leaps(frames, numbers, base, ahead, time, limit)
 }
 
 /// The least busy period of the frame at `place`: the least time of at least one tick after which all that
