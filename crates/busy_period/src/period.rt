@@ -3,13 +3,17 @@ ghost use Rattle.busy_period.specs.Stage.{AreNamed, IsStage};
 ghost use Rattle.busy_period.specs.Least.{IsLeast};
 ghost use Rattle.busy_period.specs.Busy.{IsFit, FrameBusy, FrameLeastBusy};
 
-use crate::leap::climb_by_leaps;
+use crate::leap::leap_from;
 use crate::level::{blocking, demand, work};
 use crate::line::climb_start;
 use crate::timed::Timed;
 
-/// The steps of a climb that are plain, since most climbs end within them.
-const PLAIN_STEPS: u32 = 16;
+/// After how many steps of a climb the next one is a leap: a leap costs about ten steps, and most climbs end
+/// before.
+const LEAP_EVERY: u32 = 16;
+
+/// In how many rounds a leap is lengthened.
+const LEAP_ROUNDS: u32 = 4;
 
 /// The most instances of a frame in a busy period that counts.
 pub const MAX_INSTANCES: u64 = 256;
@@ -34,10 +38,8 @@ pub fn least_fit(
         ((time : ℕ) → IsFit frames.now numbers.now base ahead from time → limit < time) }
 {
     let mut time = climb_start(frames, numbers, base, ahead, from, limit)?;
-    if time > limit {
-        return None;
-    }
-    for _ in 0..PLAIN_STEPS {
+    let mut steps: u32 = 0;
+    while time <= limit {
         let asked = u128::from(base) + work(frames, numbers, time + ahead);
         if asked <= u128::from(time) {
             return Some(time);
@@ -45,9 +47,19 @@ pub fn least_fit(
         if asked > u128::from(limit) {
             return None;
         }
-        time = asked as u64;
+        steps = steps.wrapping_add(1);
+        let rounds = if steps % LEAP_EVERY == 0 {
+            LEAP_ROUNDS
+        } else {
+            0
+        };
+        let leap = leap_from(frames, numbers, time + ahead, asked as u64 - time, rounds)?;
+        if leap > u128::from(limit - time) {
+            return None;
+        }
+        time += leap as u64;
     }
-    climb_by_leaps(frames, numbers, base, ahead, time, limit)
+    None
 }
 
 /// The least busy period of the frame at `place`: the least time of at least one tick after which all that

@@ -1,23 +1,37 @@
 use Rattle.std.proofs.Common.{arith}
-use Rattle.busy_period.proofs.Stages.{fit-above}
+use Rattle.busy_period.proofs.Stages.{fit-above, fit-after, made_up-by-fit}
 use Rattle.busy_period.proofs.period.least_fit.Goals as goal
 
--- what is asked for at a time of the climb is at most each solution
 pub returns-then-asked-from-2-clause-none : goal.returns-then-asked-from-2-clause-none
 returns-then-asked-from-2-clause-none c = λ time fit.
     omega (
       arith,
-      fit-above _ _ _ c.args.ahead c.args.from c.loop.time time fit (c.loop.invariant.below time fit),
+      fit-above _ _ _ c.args.ahead c.args.from c.loop-time.time time fit
+          (c.loop-time.invariant.below time fit),
     )
 
-pub loop-preserved : goal.loop-preserved
-loop-preserved c =
+pub returns-in_err-leap-clause-none : goal.returns-in_err-leap-clause-none
+returns-in_err-leap-clause-none c =
+    let ensured = c.in_err-leap.ensures {u = tt} in
+    rw c.from_residual-in_err-leap.ensures (λ time fit. absurd (ensured.none _
+    (made_up-by-fit c.args.frames.now c.args.numbers.now c.args.base c.args.ahead c.args.from
+    c.loop-time.time _ time (omega arith) fit (c.loop-time.invariant.below time fit))))
+
+pub returns-then-leap-from-clause-none : goal.returns-then-leap-from-clause-none
+returns-then-leap-from-clause-none c = λ time fit.
+    let ensured = c.in_ok-leap.ensures {u = tt} in
+    omega (
+      arith,
+      fit-after c.args.frames.now c.args.numbers.now c.args.base c.args.ahead c.args.from c.loop-time.time _
+          c.in_ok-leap.leap time (omega arith) ensured.some fit (c.loop-time.invariant.below time fit),
+    )
+
+pub loop-time-preserved : goal.loop-time-preserved
+loop-time-preserved c =
+    let ensured = c.in_ok-leap.ensures {u = tt} in
     record {
       begun = omega arith;
-      within = omega arith;
       below = λ time fit.
-          omega (
-            arith,
-            fit-above _ _ _ c.args.ahead c.args.from c.loop.time time fit (c.loop.invariant.below time fit),
-          );
+          fit-after c.args.frames.now c.args.numbers.now c.args.base c.args.ahead c.args.from c.loop-time.time _
+          c.in_ok-leap.leap time (omega arith) ensured.some fit (c.loop-time.invariant.below time fit);
     }
