@@ -1,5 +1,5 @@
 -- What is known of a frame by one sending of each frame of its level, and by any busy period of the level.
-use Rattle.std.proofs.Common.{◌≡◌, ℕ, ◌+◌, ◌-◌, ◌*◌, ◌<◌, ◌≤◌, ◌⊎◌, inl, inr, List, [], ◌∷◌, ◌++◌, length, take, drop, get_or, suc, All, Bool, true, false, cond, leb, Option, Some, None, IfSome, max, min, sum_by, refl, add-zero, length-take, sym, ◌∙◌, ap, subst, arith}
+use Rattle.std.proofs.Common.{◌≡◌, ℕ, ◌+◌, ◌-◌, ◌*◌, ◌<◌, ◌≤◌, ◌⊎◌, inl, inr, List, [], ◌∷◌, ◌++◌, length, take, drop, get_or, suc, All, true, false, cond, leb, Option, Some, None, IfSome, max, min, sum_by, refl, add-zero, length-take, sym, ◌∙◌, ap, subst, arith}
 use Rattle.std.specs.Option.{IsSomeAnd, unwrap_or}
 use Rattle.std.specs.List.{remove}
 use Rattle.std.specs.List.Sorted.{IsPermutation}
@@ -16,9 +16,8 @@ use Rattle.busy_period.specs.Least.{IsLeast}
 use Rattle.busy_period.specs.Demand.{instances_of, asks_of, work_of}
 use Rattle.busy_period.specs.Busy.{IsBusy, IsFit}
 use Rattle.busy_period.proofs.Instances.{quotient-le}
-use Rattle.busy_period.proofs.Stages.{named_is_in_range}
+use Rattle.busy_period.proofs.Stages.{named_is_in_range, work-le, least_from_later}
 use Rattle.response_test.specs.Queueing.{IsBit}
-use Rattle.response_test.specs.Passing.{InstancePasses}
 use Rattle.response_test.specs.Frame.{PassesBlocked, InstancePassesBlocked}
 use Rattle.response_test.proofs.Worst.{some_instance}
 use Rattle.response_test.proofs.Starts.{starts_before_end}
@@ -118,6 +117,48 @@ once_fit frames level blocked asked index named inside is once =
         work_once frames level asked (level_ranges frames level named) some once,
         ap (work_of frames level) (add-zero asked),
       );
+    }
+
+-- a busy period holds, before the blocking, all that the level asks for
+pub first_before_busy : (frames : List Timed) (level : List ℕ) (blocked first time index : ℕ)
+    → AreNamed frames level → index < length level → NoneBefore frames level first
+    → IsFit frames level blocked 0 1 time → first + blocked ≤ time
+first_before_busy frames level blocked first time index named inside none fit =
+    let range : IsInRange (frame_at frames (get_or level index 0)) = named_is_in_range frames level index named inside in
+    let later : 1 ≤ time + 0 = omega (arith, fit.begun) in
+    let asks : ticks_of frames level ≤ work_of frames level (time + 0) =
+    work_some frames level (time + 0) (level_ranges frames level named) later in
+    let some : 1 ≤ ticks_of frames level =
+    omega (arith, range.some_ticks, get_or-le-sum_by (λ n. (frame_at frames n).ticks) level index 0 inside) in
+    let le : time - blocked + 0 ≤ time + 0 = omega arith in
+    let less : work_of frames level (time - blocked + 0) ≤ work_of frames level (time + 0) =
+    work-le frames level (time - blocked + 0) (time + 0) le in
+    let alone : IsFit frames level 0 0 1 (time - blocked) =
+    record { begun = omega (arith, fit.done); done = omega (arith, fit.done) } in
+    omega (arith, none (time - blocked) alone, fit.done)
+
+-- so the least one is the least after the first time that holds what the level asks for, and the blocking
+pub busy_from_first : (frames : List Timed) (level : List ℕ) (blocked first busy index : ℕ)
+    → AreNamed frames level → index < length level → IsLeast (IsFit frames level 0 0 1) first
+    → IsLeast (IsFit frames level blocked 0 (first + blocked)) busy
+    → IsLeast (IsFit frames level blocked 0 1) busy
+busy_from_first frames level blocked first busy index named inside begins least =
+    least_from_later frames level blocked 0 1 (first + blocked) busy (omega (arith, begins.holds.begun))
+    (λ time fit. first_before_busy frames level blocked first time index named inside begins.least fit) least
+
+-- what fits with the blocking fits without, and no sooner than that
+pub fit_without : (frames : List Timed) (level : List ℕ) (blocked time : ℕ)
+    → IsFit frames level blocked 0 1 time → IsFit frames level 0 0 1 time
+fit_without frames level blocked time fit =
+    record { begun = fit.begun; done = omega (arith, fit.done) }
+
+pub fit_after_first : (frames : List Timed) (level : List ℕ) (blocked first time index : ℕ)
+    → AreNamed frames level → index < length level → NoneBefore frames level first
+    → IsFit frames level blocked 0 1 time → IsFit frames level blocked 0 (first + blocked) time
+fit_after_first frames level blocked first time index named inside none fit =
+    record {
+      begun = first_before_busy frames level blocked first time index named inside none fit;
+      done = fit.done;
     }
 
 -- so a busy period is known there

@@ -12,8 +12,8 @@ use crate::once::{Once, busy_by, ends_with};
 use busy_period::{MAX_INSTANCES, Timed, least_fit};
 use response_test::last_passes;
 
-/// The greatest period of a frame, in ticks.
-const MAX_PERIOD: u64 = 100_000_000_000;
+/// The most ticks of a busy period that counts: so many of the greatest period.
+const MAX_LIMIT: u64 = MAX_INSTANCES * 100_000_000_000;
 
 /// Times of a level that tell of most of its frames whether they pass.
 #[derive(Clone, Copy)]
@@ -125,13 +125,13 @@ pub(crate) fn choose_last(
         level[index..].rotate_left(1);
         return Some(index);
     }
-    let busy = least_fit(frames, level, blocked, 0, 1, MAX_INSTANCES * MAX_PERIOD)?;
+    let first = least_fit(frames, level, 0, 0, 1, MAX_LIMIT)?;
+    let busy = least_fit(frames, level, blocked, 0, first + blocked, MAX_LIMIT)?;
     once.busy = Some(busy);
     if ends_with(own, Some(busy)) {
         level[index..].rotate_left(1);
         return Some(index);
     }
-    let first = least_fit(frames, level, 0, 0, 1, busy).unwrap_or(0);
     let times = Times { asked, first, busy };
     choose_tested(frames, bit, blocked, times, level)
 }

@@ -2,7 +2,7 @@ use Rattle.std.proofs.Common.{ℕ, ◌+◌, ◌-◌, length, Some, arith}
 use Rattle.std.proofs.lemmas.Slice.{put_mid-rotated}
 use Rattle.priority_assign.specs.Once.{IsLastInTime}
 use Rattle.priority_assign.proofs.Levels.{fits_if_passes}
-use Rattle.priority_assign.proofs.SentOnce.{in_time_if_passes, known_fit, passes_by_known}
+use Rattle.priority_assign.proofs.SentOnce.{in_time_if_passes, known_fit, passes_by_known, fit_without, fit_after_first, busy_from_first}
 use Rattle.priority_assign.proofs.level.choose_last.Goals as goal
 
 -- a frame that passes ends by its deadline where each is sent once
@@ -31,11 +31,28 @@ returns-then-ends_with-clause-chosen c =
     }
 
 -- a frame that passes has a busy period
+pub returns-in_err-first-clause-none : goal.returns-in_err-first-clause-none
+returns-in_err-first-clause-none c =
+    rw c.from_residual-in_err-first.ensures (λ index inside passes.
+    let fits = fits_if_passes c.args.frames.now c.args.level.now c.args.blocked c.args.bit index c.requires.named inside passes in
+    omega (
+      arith,
+      (c.in_err-first.ensures {u = tt}).none fits.0 (fit_without c.args.frames.now c.args.level.now c.args.blocked fits.0 fits.1),
+      fits.2,
+    ))
+
 pub returns-in_err-busy-clause-none : goal.returns-in_err-busy-clause-none
 returns-in_err-busy-clause-none c =
     rw c.from_residual-in_err-busy.ensures (λ index inside passes.
     let fits = fits_if_passes c.args.frames.now c.args.level.now c.args.blocked c.args.bit index c.requires.named inside passes in
-    omega (arith, (c.in_err-busy.ensures {u = tt}).none fits.0 fits.1, fits.2))
+    let first = (c.in_ok-first.ensures {u = tt}).least in
+    omega (
+      arith,
+      (c.in_err-busy.ensures {u = tt}).none fits.0
+          (fit_after_first c.args.frames.now c.args.level.now c.args.blocked c.in_ok-first.first fits.0 index c.requires.named
+          inside first.least fits.1),
+      fits.2,
+    ))
 
 pub returns-then-ends_with-clause-moved : goal.returns-then-ends_with-clause-moved
 returns-then-ends_with-clause-moved c =
@@ -52,7 +69,10 @@ returns-then-ends_with-2-clause-chosen c =
     record {
       inside = it.inside;
       passes = passes_by_known c.args.frames.now c.args.level.now c.args.blocked c.args.bit c.in_ok-index.index (Some c.in_ok-busy.busy)
-          c.requires.named c.requires.bit it.inside (c.in_ok-busy.ensures {u = tt}).least.holds (c.ends_with-2.ensures.0 c.if-ends_with-2.true);
+          c.requires.named c.requires.bit it.inside
+          (busy_from_first c.args.frames.now c.args.level.now c.args.blocked c.in_ok-first.first c.in_ok-busy.busy c.in_ok-index.index
+          c.requires.named it.inside (c.in_ok-first.ensures {u = tt}).least (c.in_ok-busy.ensures {u = tt}).least).holds
+          (c.ends_with-2.ensures.0 c.if-ends_with-2.true);
       none_later = λ later after inside passes. it.none_later later after inside
           (in_time_if_passes c.args.frames.now c.args.level.now c.args.blocked c.args.bit asked later c.requires.named c.requires.bit.some
           inside (omega (arith, c.requires.once.ticks)) passes);
@@ -64,3 +84,19 @@ returns-then-ends_with-2-clause-moved c =
     (c.in_ok-index.ensures {u = tt}).last in
     put_mid-rotated c.in_ok-index.index (length c.args.level.now - c.in_ok-index.index) c.args.level.now c.rotate_left-then-ends_with-2.new.self 0
     it.inside (omega arith) c.rotate_left-then-ends_with-2.ensures.after
+
+-- the times of the level
+pub choose_tested-requires-clause-times : goal.choose_tested-requires-clause-times
+choose_tested-requires-clause-times c =
+    let first = c.in_ok-first.ensures {u = tt} in
+    let busy = c.in_ok-busy.ensures {u = tt} in
+    record {
+      asked = omega (arith, c.requires.once.ticks);
+      short = omega (arith, c.requires.once.few, c.requires.blocked);
+      first = first.least.least;
+      low = omega (arith, first.within);
+      busy =
+          busy_from_first c.args.frames.now c.args.level.now c.args.blocked c.in_ok-first.first c.in_ok-busy.busy c.in_ok-index.index
+          c.requires.named (c.in_ok-index.ensures {u = tt}).last.inside first.least busy.least;
+      limit = omega (arith, busy.within);
+    }
