@@ -106,3 +106,13 @@ pub element : {X : Type 0} (xs : List X) (i : ℕ) → i < length xs → (x : X)
 element [] i lt = absurd (omega arith)
 element (x ∷ xs) zero lt = (x, refl)
 element (x ∷ xs) (suc i) lt = element xs i (omega arith)
+
+-- a table that is written up to a place, and one more
+pub set_more : {U : Type 0} (P : ℕ → U → Type 0) (xs : List U) (n : ℕ) (v : U) → n < length xs → P n v
+    → ((k : ℕ) (d : U) → k < n → P k (get_or xs k d)) → (k : ℕ) (d : U) → k < n + 1 → P k (get_or (set xs n v) k d)
+set_more {U} P xs n v low is before k d lt = by (cases_eq k n)
+  where
+    by : (k ≡ n) ⊎ (k ≡ n → ⊥) → P k (get_or (set xs n v) k d)
+    by (inl same) =
+        subst (P k) (sym (get_or-set_at xs n k v d same low)) (subst (λ m. P m v) (sym same) is)
+    by (inr ne) = subst (P k) (sym (get_or-set_other xs n k v d ne)) (before k d (omega (arith, lt, ne)))

@@ -5,6 +5,7 @@ use Rattle.std.proofs.lemmas.List.{get_or-take}
 use Rattle.std.proofs.lemmas.List.Elements.{All-weaker}
 use Rattle.std.proofs.lemmas.List.Sorted.{IsPermutation-refl}
 use Rattle.pack_model.specs.declared.item.Item.{Item}
+use Rattle.pack_model.specs.declared.network.Network.{Network}
 use Rattle.pack_model.specs.Problem.{Parts, IsProblem, items_in_order, senders_of}
 use Rattle.pack_model.proofs.ItemFacts.{IsItemOf, items_of_signals, small_items}
 use Rattle.pack_model.proofs.Laws.{tests}
@@ -23,8 +24,10 @@ use Rattle.class_frame.proofs.Joining.{sums_of-append}
 use Rattle.class_frame.proofs.Tables.{joined_small}
 use Rattle.class_frame.proofs.Used.{items_have_signal, class_is_small}
 use Rattle.grouping_tree.specs.Partial.{IsPartial, is_class, keeps_legal}
-use Rattle.grouping_tree.specs.Grouped.{Belongs, IsNext, IsUsed, items_with, labels_of, range_of, room_of, slack_at}
+use Rattle.grouping_tree.specs.Grouped.{Belongs, IsCost, IsFrameLength, IsNext, IsUsed, items_with, labels_of, range_of, room_of, slack_at}
 use Rattle.grouping_tree.specs.Slack.{last_sender, sender_in_work, slack_in_work, slack_of, slacks_of}
+use Rattle.grouping_tree.specs.declared.cost.Cost.{Cost}
+use Rattle.grouping_tree.specs.declared.frame_length.FrameLength.{FrameLength}
 use Rattle.grouping_tree.specs.declared.partial.Partial.{Partial}
 use Rattle.grouping_tree.proofs.Fronts.{partial-append}
 use Rattle.grouping_tree.proofs.Loads.{over_put, no_load, load_low, loads_low}
@@ -82,6 +85,21 @@ low_room problem p label b some low = omega (arith, low, some, classes_few probl
 pub put_room : (problem : Parts) (p : Partial) (label : ℕ) → Belongs problem p → IsPartial (range_of problem p) (labels_of p ++ label ∷ []) → (p.count < p.many) × (label ≤ classes_of (labels_of p))
 put_room problem p label b legal =
     (omega (arith, counted problem p b, long problem p b, legal.within, length-append (labels_of p) (label ∷ [])), next-low (range_of problem p) (labels_of p) label legal)
+
+-- what the class of such a label costs is kept
+pub costs_at : (problem : Parts) (p : Partial) (label : ℕ) (cost : Cost) → Belongs problem p
+    → IsPartial (range_of problem p) (labels_of p ++ label ∷ []) → cost ≡ get_or p.costs.items label cost
+    → IsCost problem (items_with problem p label) cost
+costs_at problem p label cost b legal at =
+    let (some, low) = put_room problem p label b legal in
+    subst (IsCost problem (items_with problem p label)) (sym at)
+    (b.costs label cost (low_room problem p label b some low))
+
+-- the lengths of frames on a network are those on the same one
+pub same_lengths : (a b : Network) (lengths : List FrameLength) → a ≡ b
+    → ((k : ℕ) (d : FrameLength) → k < 65 → IsFrameLength a k (get_or lengths k d))
+    → (k : ℕ) (d : FrameLength) → k < 65 → IsFrameLength b k (get_or lengths k d)
+same_lengths a b lengths same each k d lt = subst (λ n. IsFrameLength n k (get_or lengths k d)) same (each k d lt)
 
 -- a used label has room
 pub used_room : (problem : Parts) (p : Partial) (label : ℕ) → Belongs problem p → IsUsed p label → label < room_of p

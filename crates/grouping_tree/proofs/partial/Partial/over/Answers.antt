@@ -4,7 +4,7 @@ use Rattle.busy_period.specs.declared.timed.Timed.{Timed}
 use Rattle.class_frame.specs.declared.sums.Sums.{Sums}
 use Rattle.grouping_tree.specs.declared.cost.Cost.{Cost}
 use Rattle.grouping_tree.specs.Grouped.{IsCost}
-use Rattle.grouping_tree.proofs.Used.{partial-none}
+use Rattle.grouping_tree.proofs.Used.{partial-none, same_lengths}
 use Rattle.grouping_tree.proofs.partial.Partial.over.Goals as goal
 
 pub returns-clause-belongs : goal.returns-clause-belongs
@@ -25,6 +25,7 @@ returns-clause-belongs c =
       sums_room = search rules;
       costs_room = search rules;
       frames_room = search rules;
+      sizes_room = c.write_lengths.ensures.room;
       before_room = search rules;
       legal = partial-none _;
       low = λ i lt. absurd (omega arith);
@@ -36,5 +37,6 @@ returns-clause-belongs c =
       sums = λ k d lt. ap (λ (l : List Sums). get_or l k d) sums ∙ get_or-replicate _ k c.none.result d (search rules) ∙ c.none.ensures problem;
       costs = λ k d lt. subst (IsCost problem []) (sym (ap (λ (l : List Cost). get_or l k d) costs ∙ get_or-replicate _ k c.none-2.result d (search rules))) (c.none-2.ensures problem);
       frames = λ k d lt. ap (λ (l : List Timed). get_or l k d) frames ∙ get_or-replicate _ k c.no_frame-frame.result d (search rules) ∙ c.no_frame-frame.ensures problem (search rules);
+      lengths = same_lengths _ _ _ (search rules) c.write_lengths.ensures.each;
       before = λ i d lt. absurd (omega arith);
     }

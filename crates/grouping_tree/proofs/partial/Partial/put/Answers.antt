@@ -19,7 +19,7 @@ state-before-requires c =
     record { belongs = (c.args.problem.now, b); low = low_room c.args.problem.now c.args.self.now c.args.label b some low }
 
 pub with_next-after-requires : goal.with_next-after-requires
-with_next-after-requires c = (c.args.problem.now, c.requires.belongs, c.requires.legal, c.state-before.ensures c.args.problem.now c.requires.belongs)
+with_next-after-requires c = (c.args.problem.now, c.requires.belongs, c.requires.legal)
 
 pub returns-clause-labels : goal.returns-clause-labels
 returns-clause-labels c =
@@ -39,7 +39,7 @@ returns-clause-belongs c =
     let long = length-set p.labels.items p.count label in
     let labels : take (p.count + 1) (set p.labels.items p.count label) ≡ labels_of p ++ label ∷ [] = take_more_set p.labels.items p.count label here in
     let old = c.state-before.ensures problem b in
-    let new = c.with_next-after.ensures problem b c.requires.legal old in
+    let new = c.with_next-after.ensures problem b c.requires.legal in
     record {
       stands = b.stands;
       network = b.network;
@@ -52,6 +52,7 @@ returns-clause-belongs c =
       sums_room = length-set p.sums.items label c.with_next-after.result.sums ∙ b.sums_room ∙ sym long;
       costs_room = length-set p.costs.items label c.with_next-after.result.cost ∙ b.costs_room ∙ sym long;
       frames_room = length-set p.frames.items label c.with_next-after.result.frame ∙ b.frames_room ∙ sym long;
+      sizes_room = b.sizes_room;
       before_room = length-set p.before.items p.count c.state-before.result ∙ b.before_room ∙ sym long;
       legal = subst (IsPartial range) (sym labels) c.requires.legal;
       low = λ i lt. low_put p.labels.items p.count label here there b.low i lt;
@@ -66,6 +67,7 @@ returns-clause-belongs c =
           (λ j e below. b.costs j e (omega (arith, below, b.costs_room))) new.cost k d (omega (arith, lt, long, b.costs_room));
       frames = λ k d lt. label_put (λ items frame. frame ≡ timed_of_items problem items) range p.labels.items p.frames.items p.count label c.with_next-after.result.frame here (omega (arith, b.frames_room, there))
           (λ j e below. b.frames j e (omega (arith, below, b.frames_room))) new.frame k d (omega (arith, lt, long, b.frames_room));
+      lengths = b.lengths;
       before = before_put (λ k ls u. IsState problem range ls k u) p.labels.items p.before.items p.count label c.state-before.result here (omega (arith, b.before_room, here)) old b.before;
     }
   where

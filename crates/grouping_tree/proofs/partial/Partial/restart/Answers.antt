@@ -1,5 +1,5 @@
-use Rattle.std.proofs.Common.{◌∙◌, sym, arith, rules}
-use Rattle.grouping_tree.proofs.Used.{partial-none}
+use Rattle.std.proofs.Common.{◌∙◌, subst, sym, arith, rules}
+use Rattle.grouping_tree.proofs.Used.{partial-none, same_lengths}
 use Rattle.grouping_tree.proofs.partial.Partial.restart.Goals as goal
 
 pub returns-clause-belongs : goal.returns-clause-belongs
@@ -17,6 +17,7 @@ returns-clause-belongs c =
       sums_room = c.clear.ensures.sums_room ∙ b.sums_room;
       costs_room = c.clear.ensures.costs_room ∙ b.sums_room;
       frames_room = c.clear.ensures.frames_room ∙ b.sums_room;
+      sizes_room = c.write_lengths.ensures.room;
       before_room = b.before_room;
       legal = partial-none _;
       low = λ i lt. absurd (omega arith);
@@ -28,6 +29,7 @@ returns-clause-belongs c =
       sums = λ k d lt. c.clear.ensures.sums c.args.problem.now k d (omega (arith, lt, b.sums_room));
       costs = λ k d lt. c.clear.ensures.costs c.args.problem.now k d (omega (arith, lt, b.sums_room));
       frames = λ k d lt. c.clear.ensures.frames k d (omega (arith, lt, b.sums_room)) ∙ c.no_frame.ensures c.args.problem.now (search rules);
+      lengths = same_lengths _ _ _ (search rules) c.write_lengths.ensures.each;
       before = λ i d lt. absurd (omega arith);
     }
 

@@ -40,6 +40,7 @@ returns-clause-belongs c =
       sums_room = length-set p.sums.items label kept.sums ∙ b.sums_room;
       costs_room = length-set p.costs.items label kept.cost ∙ b.costs_room;
       frames_room = length-set p.frames.items label kept.frame ∙ b.frames_room;
+      sizes_room = b.sizes_room;
       before_room = b.before_room;
       legal = partial-append range (take n p.labels.items) (get_or p.labels.items n 0 ∷ []) (subst (IsPartial range) (ap (λ m. take m p.labels.items) (sym next) ∙ take_more p.labels.items n 0 some) b.legal);
       low = λ i lt. b.low i (omega (arith, lt, next));
@@ -54,6 +55,7 @@ returns-clause-belongs c =
           (λ j e below. subst (λ m. IsCost problem (class_of j (take m p.labels.items) range) (get_or p.costs.items j e)) (sym next) (b.costs j e (omega (arith, below, b.costs_room)))) old.cost k d (omega (arith, lt, b.costs_room));
       frames = λ k d lt. label_back (λ items frame. frame ≡ timed_of_items problem items) range p.labels.items p.frames.items n label kept.frame some (omega (arith, b.frames_room, low)) here
           (λ j e below. subst (λ m. get_or p.frames.items j e ≡ timed_of_items problem (class_of j (take m p.labels.items) range)) (sym next) (b.frames j e (omega (arith, below, b.frames_room)))) old.frame k d (omega (arith, lt, b.frames_room));
+      lengths = b.lengths;
       before = λ i d lt. b.before i d (omega (arith, lt, next));
     }
 

@@ -5,7 +5,7 @@ use Rattle.class_frame.specs.declared.sums.Sums.{Sums}
 use Rattle.class_frame.specs.Sums.{AreSums}
 use Rattle.grouping_tree.specs.declared.cost.Cost.{Cost}
 use Rattle.grouping_tree.specs.Grouped.{IsCost}
-use Rattle.grouping_tree.proofs.partial.clear.Given as goal
+use Rattle.grouping_tree.proofs.kept.clear.Given as goal
 
 -- the classes so far are those of no items
 abbrev pub invariant-loop-label : goal.invariant-loop-label
