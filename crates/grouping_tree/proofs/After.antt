@@ -20,10 +20,10 @@ use Rattle.class_frame.specs.declared.sums.Sums.{Sums}
 use Rattle.class_frame.specs.Sums.{AreSums}
 use Rattle.class_frame.proofs.Harder.{period_divides}
 use Rattle.class_frame.proofs.Ranges.{AreTimes, bit_within, frame_in_range, times_of_sums}
-use Rattle.grouping_tree.specs.Grouped.{Belongs, IsCost, IsFrameLength, items_with, labels_of, range_of, room_of}
+use Rattle.grouping_tree.specs.Grouped.{Belongs, IsFrameLength, IsKept, items_with, labels_of, range_of}
 use Rattle.grouping_tree.specs.Partial.{IsPartial}
-use Rattle.grouping_tree.specs.declared.cost.Cost.{Cost}
 use Rattle.grouping_tree.specs.declared.frame_length.FrameLength.{FrameLength}
+use Rattle.grouping_tree.specs.declared.kept.State.{State}
 use Rattle.grouping_tree.specs.declared.partial.Partial.{Partial}
 use Rattle.grouping_tree.proofs.Steps.{class_next, element}
 use Rattle.grouping_tree.proofs.Used.{class_signal, classes_few, few, used_signal}
@@ -91,15 +91,11 @@ put_sent problem p label b legal =
     (put_signal problem p label b legal)).some_period
 
 -- how often the class of a label was sent before
-pub share_before : (problem : Parts) (p : Partial) (label : ℕ) (frame : Timed) (cost : Cost) → Belongs problem p
-    → label < room_of p → frame ≡ get_or p.frames.items label frame → cost ≡ get_or p.costs.items label cost
-    → cost.share ≡ p.hyper / frame.period
-share_before problem p label frame cost b low timed costs =
-    let items = items_with problem p label in
-    let period : frame.period ≡ period_of_items problem items =
-    ap (λ (f : Timed). f.period) (timed ∙ b.frames label frame low) in
-    let kept : IsCost problem items cost = subst (IsCost problem items) (sym costs) (b.costs label cost low) in
-    kept.share ∙ ap (λ n. n / period_of_items problem items) b.hyper ∙ ap (λ n. p.hyper / n) (sym period)
+pub share_before : (problem : Parts) (p : Partial) (items : List Item) (state : State) → Belongs problem p
+    → IsKept problem items state → state.cost.share ≡ p.hyper / state.frame.period
+share_before problem p items state b kept =
+    let period : state.frame.period ≡ period_of_items problem items = ap (λ (f : Timed). f.period) kept.frame in
+    kept.cost.share ∙ ap (λ n. n / period_of_items problem items) b.hyper ∙ ap (λ n. p.hyper / n) (sym period)
 
 -- and how often it is sent
 pub share_after : (problem : Parts) (p : Partial) (items : List Item) (share period : ℕ) → Belongs problem p

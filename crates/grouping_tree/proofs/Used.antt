@@ -1,6 +1,7 @@
 -- What belonging gives: room for the next label, small sums, and a signal for each used label.
-use Rattle.std.proofs.Common.{◌≡◌, ◌<◌, ◌≤◌, ◌+◌, ℕ, Bool, true, false, IsTrue, ◌↔◌, [], ◌∷◌, ◌++◌, List, length, take, drop, fold, get_or, min, nat_eq, Some, All, sym, ap, subst, ◌∙◌, arith, length-append, length-take-le, refl}
+use Rattle.std.proofs.Common.{◌≡◌, ◌<◌, ◌≤◌, ◌+◌, ℕ, zero, suc, Bool, true, false, IsTrue, ◌↔◌, [], ◌∷◌, ◌++◌, List, length, take, drop, fold, get_or, min, nat_eq, Some, All, sym, ap, subst, ◌∙◌, arith, length-append, length-take-le, refl}
 use Rattle.std.proofs.lemmas.Bool.{false≢true, ne_eqb}
+use Rattle.std.proofs.lemmas.Grind.{get_or_default_zero}
 use Rattle.std.proofs.lemmas.List.{get_or-take}
 use Rattle.std.proofs.lemmas.List.Elements.{All-weaker}
 use Rattle.std.proofs.lemmas.List.Sorted.{IsPermutation-refl}
@@ -24,9 +25,8 @@ use Rattle.class_frame.proofs.Joining.{sums_of-append}
 use Rattle.class_frame.proofs.Tables.{joined_small}
 use Rattle.class_frame.proofs.Used.{items_have_signal, class_is_small}
 use Rattle.grouping_tree.specs.Partial.{IsPartial, is_class, keeps_legal}
-use Rattle.grouping_tree.specs.Grouped.{Belongs, IsCost, IsFrameLength, IsNext, IsUsed, items_with, labels_of, range_of, room_of, slack_at}
+use Rattle.grouping_tree.specs.Grouped.{Belongs, IsFrameLength, IsNext, IsUsed, items_with, labels_of, range_of, room_of, slack_at}
 use Rattle.grouping_tree.specs.Slack.{last_sender, sender_in_work, slack_in_work, slack_of, slacks_of}
-use Rattle.grouping_tree.specs.declared.cost.Cost.{Cost}
 use Rattle.grouping_tree.specs.declared.frame_length.FrameLength.{FrameLength}
 use Rattle.grouping_tree.specs.declared.partial.Partial.{Partial}
 use Rattle.grouping_tree.proofs.Fronts.{partial-append}
@@ -86,14 +86,17 @@ pub put_room : (problem : Parts) (p : Partial) (label : ℕ) → Belongs problem
 put_room problem p label b legal =
     (omega (arith, counted problem p b, long problem p b, legal.within, length-append (labels_of p) (label ∷ [])), next-low (range_of problem p) (labels_of p) label legal)
 
--- what the class of such a label costs is kept
-pub costs_at : (problem : Parts) (p : Partial) (label : ℕ) (cost : Cost) → Belongs problem p
-    → IsPartial (range_of problem p) (labels_of p ++ label ∷ []) → cost ≡ get_or p.costs.items label cost
-    → IsCost problem (items_with problem p label) cost
-costs_at problem p label cost b legal at =
-    let (some, low) = put_room problem p label b legal in
-    subst (IsCost problem (items_with problem p label)) (sym at)
-    (b.costs label cost (low_room problem p label b some low))
+-- the class of a label got its last item among those with a label
+pub found_low : (problem : Parts) (p : Partial) (label last : ℕ) → Belongs problem p → label < room_of p
+    → last ≡ get_or p.last.items label last → last ≤ p.count
+found_low problem p label last b low at = by last refl
+  where
+    is : last ≡ get_or p.last.items label 0
+    is = at ∙ get_or_default_zero p.last.items label last (omega (arith, b.last_room, low))
+
+    by : (n : ℕ) → last ≡ n → last ≤ p.count
+    by zero e = omega (arith, e)
+    by (suc i) e = let before : i < p.count = (b.last label low i (sym is ∙ e ∙ (let one : suc i ≡ i + 1 = omega arith in one))).0 in omega (arith, before, e)
 
 -- the lengths of frames on a network are those on the same one
 pub same_lengths : (a b : Network) (lengths : List FrameLength) → a ≡ b

@@ -1,15 +1,15 @@
 //! What is kept of classes.
-ghost use Rattle.std.specs.Prelude.{◌≡◌, ◌<◌, ℕ, [], length, slice_index_or};
-ghost use Rattle.pack_model.specs.Problem.{Parts};
-ghost use Rattle.class_frame.specs.Sums.{AreSums};
-ghost use Rattle.class_frame.specs.declared.sums.Sums.{Sums};
-ghost use Rattle.grouping_tree.specs.Grouped.{IsCost};
-ghost use Rattle.grouping_tree.specs.declared.cost.Cost.{Cost};
+ghost use Rattle.std.specs.Prelude.{◌≡◌, ◌<◌, ℕ, List, [], length, slice_index, slice_index_or};
 ghost use Rattle.busy_period.specs.declared.timed.Timed.{Timed};
+ghost use Rattle.pack_model.specs.Network.{NetworkStands};
+ghost use Rattle.pack_model.specs.Problem.{Parts};
+ghost use Rattle.pack_model.specs.declared.item.Item.{Item};
+ghost use Rattle.grouping_tree.specs.Grouped.{AreKept, IsKept};
 
-use crate::cost::Cost;
+use crate::cost::{Cost, no_frame};
 use busy_period::Timed;
 use class_frame::Sums;
+use pack_model::Network;
 
 /// What all classes come to once the next item has a label.
 #[derive(Clone, Copy, Debug, PartialEq, Eq)]
@@ -50,29 +50,37 @@ pub(crate) struct State {
     pub(crate) slack: u128,
 }
 
-/// Makes all classes those of no items, whose frame is `frame`.
-pub(crate) fn clear(
-    sums: &mut Vec<Sums>,
-    costs: &mut Vec<Cost>,
-    frames: &mut Vec<Timed>,
-    frame: Timed,
-)
-    requires costs { length costs.old.items ≡ length sums.old.items }
-    requires frames { length frames.old.items ≡ length sums.old.items }
-    ensures sums_room { length sums.new.items ≡ length sums.old.items }
-    ensures costs_room { length costs.new.items ≡ length sums.old.items }
-    ensures frames_room { length frames.new.items ≡ length sums.old.items }
-    ensures sums { (problem : Parts) (label : ℕ) (d : Sums) → label < length sums.old.items
-        → AreSums problem [] (slice_index_or sums.new.items label d) }
-    ensures costs { (problem : Parts) (label : ℕ) (d : Cost) → label < length sums.old.items
-        → IsCost problem [] (slice_index_or costs.new.items label d) }
-    ensures frames { (label : ℕ) (d : Timed) → label < length sums.old.items
+impl State {
+    /// Where no item has a label.
+    pub(crate) fn none(network: &Network) -> State
+        requires { NetworkStands network.now }
+        ensures kept { (problem : Parts) → problem.network ≡ network.now → IsKept problem [] result }
+        ensures all { (problem : Parts) (range : List Item) → AreKept problem range [] result }
+    {
+        State {
+            sums: Sums::none(),
+            cost: Cost::none(),
+            frame: no_frame(network),
+            classes: 0,
+            first_label: 0,
+            load: 0,
+            slack: 0,
+        }
+    }
+}
+
+/// Takes all items from all classes: `frame` is the frame of no items.
+pub(crate) fn clear(last: &mut Vec<usize>, frames: &mut Vec<Timed>, frame: Timed)
+    requires frames { length frames.old.items ≡ length last.old.items }
+    ensures last_room { length last.new.items ≡ length last.old.items }
+    ensures frames_room { length frames.new.items ≡ length last.old.items }
+    ensures last { (label : ℕ) → label < length last.old.items → slice_index last.new.items label ≡ 0 }
+    ensures frames { (label : ℕ) (d : Timed) → label < length last.old.items
         → slice_index_or frames.new.items label d ≡ frame }
 {
-    let many = sums.len();
+    let many = last.len();
     for label in 0..many {
-        sums[label] = Sums::none();
-        costs[label] = Cost::none();
+        last[label] = 0;
         frames[label] = frame;
     }
 }

@@ -11,13 +11,13 @@ ghost use Rattle.class_frame.specs.Grouping.{class_of, classes_of};
 ghost use Rattle.class_frame.specs.Sums.{AreSums, IsSmall};
 ghost use Rattle.class_frame.specs.declared.sums.Sums.{Sums};
 ghost use Rattle.grouping_tree.specs.Partial.{IsPartial, keeps_legal, options_of};
-ghost use Rattle.grouping_tree.specs.Grouped.{AreEach, AreEarlier, Belongs, IsCost, IsNext, IsState, IsUsed, items_in, items_with, sender_of, labels_of, range_of, room_of, slack_at};
+ghost use Rattle.grouping_tree.specs.Grouped.{AreEach, AreEarlier, Belongs, IsCost, IsNext, IsKept, IsState, IsUsed, items_in, items_with, sender_of, labels_of, range_of, room_of, slack_at};
 ghost use Rattle.grouping_tree.specs.declared.cost.Cost.{Cost};
 ghost use Rattle.busy_period.specs.declared.timed.Timed.{Timed};
 ghost use Rattle.grouping_tree.specs.Slack.{sender_in_work, slack_in_work, slacks_of};
 ghost use Rattle.grouping_tree.specs.Walk.{options_from, places_below, places_left};
 
-use crate::cost::{Cost, no_frame, share_of};
+use crate::cost::{Cost, share_of};
 use crate::frame_length::{FrameLength, LENGTHS, write_lengths};
 use crate::kept::{Ahead, Kept, State, clear};
 use crate::place::{place_in, write_sums};
@@ -53,16 +53,17 @@ pub struct Partial {
     labels: Vec<u32>,
     /// The sums of each item of the range.
     items: Vec<Sums>,
-    /// The sums of the items of each label.
-    sums: Vec<Sums>,
-    /// What the class of each label costs.
-    costs: Vec<Cost>,
     /// The class of each label as a frame.
     frames: Vec<Timed>,
     /// How long the frame of items of each number of bytes is.
     lengths: Vec<FrameLength>,
-    /// What was kept before each item got its label.
-    before: Vec<State>,
+    /// What is kept of the class of each item's label, and of all classes, once it got it; before these, what is
+    /// kept where no item has one.
+    states: Vec<State>,
+    /// After how many items the class of each label got its last one; 0 where it has none.
+    last: Vec<usize>,
+    /// What `last` had for each item's label before it got it.
+    before: Vec<usize>,
 }
 
 impl Partial {
@@ -101,16 +102,7 @@ impl Partial {
         ensures room { IfOk result (λ partial. room_of partial ≡ length (items_in problem.now.items sender)) }
     {
         let place = place_in(problem, sender);
-        let frame = no_frame(problem.network());
-        let none = State {
-            sums: Sums::none(),
-            cost: Cost::none(),
-            frame,
-            classes: 0,
-            first_label: 0,
-            load: 0,
-            slack: 0,
-        };
+        let none = State::none(problem.network());
         let mut items = vec![in alloc; none.sums; place.many]?;
         write_sums(&mut items, problem, place);
         let mut lengths = vec![in alloc; FrameLength::none(); LENGTHS as usize]?;
@@ -128,11 +120,11 @@ impl Partial {
             slack: 0,
             labels: vec![in alloc; 0; place.many]?,
             items,
-            sums: vec![in alloc; none.sums; place.many]?,
-            costs: vec![in alloc; none.cost; place.many]?,
             frames: vec![in alloc; none.frame; place.many]?,
             lengths,
-            before: vec![in alloc; none; place.many]?,
+            states: vec![in alloc; none; place.many + 1]?,
+            last: vec![in alloc; 0; place.many]?,
+            before: vec![in alloc; 0; place.many]?,
         })
     }
 
@@ -162,12 +154,9 @@ impl Partial {
         self.slack = 0;
         write_sums(&mut self.items, problem, place);
         write_lengths(&mut self.lengths, problem.network());
-        clear(
-            &mut self.sums,
-            &mut self.costs,
-            &mut self.frames,
-            no_frame(problem.network()),
-        );
+        let none = State::none(problem.network());
+        clear(&mut self.last, &mut self.frames, none.frame);
+        self.states[0] = none;
     }
 
     /// The number of the sender whose items the range has; none over all items.
@@ -286,7 +275,7 @@ impl Partial {
             (class_of label (labels_of self.now ++ label ∷ []) (range_of problem self.now)) result }
         ensures small { IsSmall result }
     {
-        self.sums[label as usize].join(next)
+        self.kept_of(label).sums.join(next)
     }
 
     /// Whether the next item, whose sums are `next`, may get a label.
@@ -299,26 +288,17 @@ impl Partial {
         self.sums_with(label, next).stands()
     }
 
-    /// What is kept of the class of a label, and of all classes.
-    fn state(&self, label: u32) -> State
+    /// What is kept of the class of a label.
+    fn kept_of(&self, label: u32) -> &State
         requires belongs { (problem : Parts) × Belongs problem self.now }
         requires low { label < room_of self.now }
         ensures { (problem : Parts) → Belongs problem self.now
-            → IsState problem (range_of problem self.now) (labels_of self.now) label result }
+            → IsKept problem (items_with problem self.now label) result.now }
     {
-        let place = label as usize;
-        State {
-            sums: self.sums[place],
-            cost: self.costs[place],
-            frame: self.frames[place],
-            classes: self.classes,
-            first_label: self.first_label,
-            load: self.load,
-            slack: self.slack,
-        }
+        &self.states[self.last[label as usize]]
     }
 
-    /// The same once the next item has the label too, one that may be put next.
+    /// What is kept once the next item has a label, one that may be put next.
     fn with_next(&self, label: u32) -> State
         requires { (problem : Parts) × Belongs problem self.now
             × IsPartial (range_of problem self.now) (labels_of self.now ++ label ∷ []) }
@@ -379,8 +359,8 @@ impl Partial {
     {
         let long = self.lengths[sums.frame_bytes() as usize];
         let period = u64::from(self.network.ticks_per_us) * u64::from(sums.period_us);
-        let before = self.frames[label as usize].period;
-        let share = share_of(self.hyper, period, before, self.costs[label as usize].share);
+        let before = self.kept_of(label);
+        let share = share_of(self.hyper, period, before.frame.period, before.cost.share);
         Cost::of(&self.network, sums.weight, long, share)
     }
 
@@ -399,7 +379,7 @@ impl Partial {
             → IsCost problem (class_of label (labels_of self.now ++ label ∷ []) (range_of problem self.now)) cost
             → result.slack ≡ slack_at problem (range_of problem self.now) (labels_of self.now ++ label ∷ []) }
     {
-        let before = &self.costs[label as usize];
+        let before = self.kept_of(label).cost;
         let other_loads = self.load - before.load;
         let other_slacks = self.slacks_beside(next) - before.slack;
         Ahead {
@@ -449,18 +429,18 @@ impl Partial {
         ensures sender { sender_of self.new ≡ sender_of self.old }
         ensures room { room_of self.new ≡ room_of self.old }
     {
-        let before = self.state(label);
         let after = self.with_next(label);
-        self.before[self.count] = before;
+        let place = label as usize;
         self.labels[self.count] = label;
-        self.sums[label as usize] = after.sums;
-        self.costs[label as usize] = after.cost;
-        self.frames[label as usize] = after.frame;
+        self.before[self.count] = self.last[place];
+        self.count += 1;
+        self.last[place] = self.count;
+        self.frames[place] = after.frame;
         self.classes = after.classes;
         self.first_label = after.first_label;
         self.load = after.load;
         self.slack = after.slack;
-        self.count += 1;
+        self.states[self.count] = after;
     }
 
     /// Takes the last label away.
@@ -474,15 +454,15 @@ impl Partial {
         ensures room { room_of self.new ≡ room_of self.old }
     {
         self.count -= 1;
-        let before = &self.before[self.count];
-        let label = self.labels[self.count];
-        self.sums[label as usize] = before.sums;
-        self.costs[label as usize] = before.cost;
-        self.frames[label as usize] = before.frame;
-        self.classes = before.classes;
-        self.first_label = before.first_label;
-        self.load = before.load;
-        self.slack = before.slack;
+        let place = self.labels[self.count] as usize;
+        let last = self.before[self.count];
+        self.last[place] = last;
+        self.frames[place] = self.states[last].frame;
+        let all = &self.states[self.count];
+        self.classes = all.classes;
+        self.first_label = all.first_label;
+        self.load = all.load;
+        self.slack = all.slack;
     }
 
     /// What is kept of the class of a used label, for every problem to which the partial grouping belongs.
@@ -496,11 +476,11 @@ impl Partial {
         ensures size { (problem : Parts) → Belongs problem self.now
             → Some result.size ≡ size_of_items (items_with problem self.now label) }
     {
-        let sums = self.sums[label as usize];
+        let kept = self.kept_of(label);
         Kept {
-            weight: sums.weight,
-            size: sums.size().unwrap_or(0),
-            timed: sums.timed(&self.network),
+            weight: kept.sums.weight,
+            size: kept.sums.size().unwrap_or(0),
+            timed: kept.frame,
         }
     }
 

@@ -1,20 +1,19 @@
-use Rattle.std.proofs.Common.{◌≡◌, sym, ap, subst, ◌∙◌, arith}
-use Rattle.grouping_tree.specs.Grouped.{IsCost, items_with}
-use Rattle.grouping_tree.proofs.Used.{costs_at, load_put, low_room, put_room, slack_put}
+use Rattle.std.proofs.Common.{arith}
+use Rattle.grouping_tree.proofs.Used.{load_put, low_room, put_room, slack_put}
 use Rattle.grouping_tree.proofs.partial.Partial.all_with.Goals as goal
 
-pub index-before-requires : goal.index-before-requires
-index-before-requires c =
+pub kept_of-requires : goal.kept_of-requires
+kept_of-requires c =
     let (problem, b, next, legal, cost) = c.requires in
     let (some, low) = put_room problem c.args.self.now c.args.label b legal in
-    omega (arith, b.costs_room, low_room problem c.args.self.now c.args.label b some low)
+    record { belongs = (problem, b); low = low_room problem c.args.self.now c.args.label b some low }
 
 pub overflow_sub-other_loads : goal.overflow_sub-other_loads
 overflow_sub-other_loads c =
     let (problem, b, next, legal, cost) = c.requires in
     let p = c.args.self.now in
     let loads = load_put problem p c.args.label c.args.next b next (put_room problem p c.args.label b legal).1 in
-    let old = costs_at problem p c.args.label c.index-before.result.now b legal c.index-before.ensures in
+    let old = (c.kept_of.ensures problem b).cost in
     omega (arith, loads.0, b.load, old.load)
 
 pub slacks_beside-requires : goal.slacks_beside-requires
@@ -29,7 +28,7 @@ overflow_sub-other_slacks c =
     let slacks =
     slack_put problem p c.args.label c.args.next b next (put_room problem p c.args.label b legal).1
     (legal.classes c.args.label) in
-    let old = costs_at problem p c.args.label c.index-before.result.now b legal c.index-before.ensures in
+    let old = (c.kept_of.ensures problem b).cost in
     omega (arith, slacks.0, c.slacks_beside.ensures problem b next, old.slack)
 
 pub overflow_add-result : goal.overflow_add-result
@@ -52,7 +51,7 @@ pub returns-clause-load : goal.returns-clause-load
 returns-clause-load c = λ problem b next legal cost.
     let p = c.args.self.now in
     let loads = load_put problem p c.args.label c.args.next b next (put_room problem p c.args.label b legal).1 in
-    let old = costs_at problem p c.args.label c.index-before.result.now b legal c.index-before.ensures in
+    let old = (c.kept_of.ensures problem b).cost in
     omega (arith, loads.0, loads.3, b.load, old.load, cost.load)
 
 pub returns-clause-slack : goal.returns-clause-slack
@@ -61,5 +60,5 @@ returns-clause-slack c = λ problem b next legal cost.
     let slacks =
     slack_put problem p c.args.label c.args.next b next (put_room problem p c.args.label b legal).1
     (legal.classes c.args.label) in
-    let old = costs_at problem p c.args.label c.index-before.result.now b legal c.index-before.ensures in
+    let old = (c.kept_of.ensures problem b).cost in
     omega (arith, slacks.0, slacks.3, c.slacks_beside.ensures problem b next, old.slack, cost.slack)

@@ -1,6 +1,6 @@
-use Rattle.std.proofs.Common.{◌≡◌, ◌≤◌, ◌*◌, ◌++◌, ◌∷◌, [], sym, ap, subst, ◌∙◌, arith}
+use Rattle.std.proofs.Common.{◌≤◌, ◌*◌, ◌++◌, ◌∷◌, [], sym, ap, subst, arith}
 use Rattle.class_frame.specs.Grouping.{class_of}
-use Rattle.grouping_tree.specs.Grouped.{labels_of, range_of}
+use Rattle.grouping_tree.specs.Grouped.{items_with, labels_of, range_of}
 use Rattle.grouping_tree.proofs.After.{bytes_low, long_is, put_period, put_sent, share_after, share_before}
 use Rattle.grouping_tree.proofs.Used.{low_room, put_room}
 use Rattle.grouping_tree.proofs.partial.Partial.cost_with.Goals as goal
@@ -14,17 +14,11 @@ index-long-requires c =
     (class_of c.args.label (labels_of p ++ c.args.label ∷ []) (range_of problem p)) are in
     omega (arith, b.sizes_room, bytes_low problem p c.args.label c.frame_bytes.result legal bytes)
 
-pub index-requires : goal.index-requires
-index-requires c =
+pub kept_of-before-requires : goal.kept_of-before-requires
+kept_of-before-requires c =
     let (problem, b, legal, are) = c.requires.sums in
     let (some, low) = put_room problem c.args.self.now c.args.label b legal in
-    omega (arith, b.frames_room, low_room problem c.args.self.now c.args.label b some low)
-
-pub index-requires-2 : goal.index-requires-2
-index-requires-2 c =
-    let (problem, b, legal, are) = c.requires.sums in
-    let (some, low) = put_room problem c.args.self.now c.args.label b legal in
-    omega (arith, b.costs_room, low_room problem c.args.self.now c.args.label b some low)
+    record { belongs = (problem, b); low = low_room problem c.args.self.now c.args.label b some low }
 
 pub share_of-share-requires-clause-some : goal.share_of-share-requires-clause-some
 share_of-share-requires-clause-some c =
@@ -39,9 +33,8 @@ pub share_of-share-requires-clause-known : goal.share_of-share-requires-clause-k
 share_of-share-requires-clause-known c =
     let (problem, b, legal, are) = c.requires.sums in
     let p = c.args.self.now in
-    let (some, low) = put_room problem p c.args.label b legal in
-    share_before problem p c.args.label c.index.result.now c.index-2.result.now b
-    (low_room problem p c.args.label b some low) c.index.ensures c.index-2.ensures
+    share_before problem p (items_with problem p c.args.label) c.kept_of-before.result.now b
+    (c.kept_of-before.ensures problem b)
 
 pub returns : goal.returns
 returns c = λ problem b legal are.

@@ -1,4 +1,4 @@
-use Rattle.std.proofs.Common.{◌≡◌, ◌+◌, max, sym, ap, ◌∙◌, arith}
+use Rattle.std.proofs.Common.{◌+◌, max, sym, ap, ◌∙◌, arith}
 use Rattle.class_frame.proofs.GroupingLaws.{classes_of-push}
 use Rattle.grouping_tree.specs.Grouped.{labels_of}
 use Rattle.grouping_tree.proofs.Used.{classes_few, counted, few, long, put_room}
@@ -68,13 +68,13 @@ returns c = λ problem b legal.
     let cost = c.cost_with-cost.ensures problem b legal sums in
     let label = c.args.label in
     record {
-      sums = sums;
-      cost = cost;
-      frame = c.frame_with.ensures problem b legal sums;
-      first = c.first_option.ensures problem b next label;
-      classes =
-          c.max.ensures ∙ ap (λ n. max n (label + 1)) b.classes
-          ∙ sym (classes_of-push (labels_of c.args.self.now) label);
-      load = c.all_with-all.ensures.load problem b next legal cost;
-      slack = c.all_with-all.ensures.slack problem b next legal cost;
+      own = record { sums = sums; cost = cost; frame = c.frame_with.ensures problem b legal sums };
+      all = record {
+        classes =
+            c.max.ensures ∙ ap (λ n. max n (label + 1)) b.classes
+            ∙ sym (classes_of-push (labels_of c.args.self.now) label);
+        first = c.first_option.ensures problem b next label;
+        load = c.all_with-all.ensures.load problem b next legal cost;
+        slack = c.all_with-all.ensures.slack problem b next legal cost;
+      };
     }
