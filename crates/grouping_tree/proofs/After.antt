@@ -1,54 +1,108 @@
 -- What is kept of a class once the next item is in it, and the classes of a partial grouping as frames.
-use Rattle.std.proofs.Common.{◌≡◌, ◌<◌, ◌≤◌, ◌+◌, ◌/◌, ◌%◌, ℕ, zero, suc, [], ◌∷◌, ◌++◌, List, length, map, take, get_or, All, refl, sym, ap, subst, ◌∙◌, arith}
+use Rattle.std.proofs.Common.{◌≡◌, ◌<◌, ◌≤◌, ◌+◌, ◌*◌, ◌/◌, ◌%◌, ℕ, zero, suc, [], ◌∷◌, ◌++◌, List, length, map, take, get_or, All, refl, sym, ap, subst, ◌∙◌, arith, length-append}
 use Rattle.std.specs.List.{range_with_len}
 use Rattle.std.proofs.lemmas.List.Elements.{All-map}
 use Rattle.std.proofs.lemmas.List.FromFn.{get_or-range_with_len, length-map-range_with_len, length-range_with_len}
 use Rattle.busy_period.specs.declared.timed.Timed.{Timed}
 use Rattle.busy_period.specs.Timed.{IsInRange}
 use Rattle.pack_model.specs.declared.item.Item.{Item}
+use Rattle.pack_model.specs.declared.network.Network.{Network}
 use Rattle.pack_model.specs.Problem.{Parts}
 use Rattle.pack_model.proofs.Laws.{tests}
 use Rattle.pack_model.proofs.Periods.{problem_period}
 use Rattle.response_test.specs.Queueing.{IsBit}
 use Rattle.response_test.specs.Refuted.{IsCommon}
 use Rattle.class_frame.specs.Classes.{frames_of_classes}
-use Rattle.class_frame.specs.Frame.{period_of_items, timed_of_items}
+use Rattle.class_frame.specs.Frame.{bytes_of_items, period_of_items, timed_of_items}
 use Rattle.class_frame.specs.Grouping.{class_of, classes_of}
 use Rattle.class_frame.specs.Laws.{HasSignal}
 use Rattle.class_frame.specs.declared.sums.Sums.{Sums}
-use Rattle.class_frame.specs.Sums.{AreSums, IsOn, IsSmall, joined}
+use Rattle.class_frame.specs.Sums.{AreSums}
 use Rattle.class_frame.proofs.Harder.{period_divides}
-use Rattle.class_frame.proofs.Ranges.{bit_within, frame_in_range}
-use Rattle.grouping_tree.specs.Grouped.{Belongs, IsCost, IsNext, IsState, items_with, labels_of, range_of}
-use Rattle.grouping_tree.specs.declared.cost.Cost.{Cost}
+use Rattle.class_frame.proofs.Ranges.{AreTimes, bit_within, frame_in_range, times_of_sums}
+use Rattle.grouping_tree.specs.Grouped.{Belongs, IsFrameLength, IsKept, items_with, labels_of, range_of}
+use Rattle.grouping_tree.specs.Partial.{IsPartial}
+use Rattle.grouping_tree.specs.declared.frame_length.FrameLength.{FrameLength}
+use Rattle.grouping_tree.specs.declared.kept.State.{State}
 use Rattle.grouping_tree.specs.declared.partial.Partial.{Partial}
-use Rattle.grouping_tree.specs.declared.partial.State.{State}
-use Rattle.grouping_tree.proofs.Used.{classes_few, few, next_signal, next_small, next_sums, used_signal}
+use Rattle.grouping_tree.proofs.Steps.{class_next, element}
+use Rattle.grouping_tree.proofs.Used.{class_signal, classes_few, few, used_signal}
 
--- the sums of the label with the next item are small
-pub after_small : (problem : Parts) (p : Partial) (label : ℕ) (next sums : Sums) (before : State) → Belongs problem p → IsNext problem p next → IsState problem (range_of problem p) (labels_of p) label before
-    → sums ≡ joined before.sums next → IsSmall sums
-after_small problem p label next sums before b is old sum = subst IsSmall (sym sum) (next_small problem p label next before.sums b is old.sums)
+-- the class of a label that is put has a signal
+pub put_signal : (problem : Parts) (p : Partial) (label : ℕ) → Belongs problem p
+    → IsPartial (range_of problem p) (labels_of p ++ label ∷ [])
+    → HasSignal problem (class_of label (labels_of p ++ label ∷ []) (range_of problem p))
+put_signal problem p label b legal =
+    let range = range_of problem p in
+    let labels = labels_of p in
+    let some : length labels < length range = omega (arith, legal.within, length-append labels (label ∷ [])) in
+    let (item, at) = element range (length labels) some in
+    class_signal problem p (labels ++ label ∷ []) label b
+    (omega (
+      arith,
+      ap length (class_next label labels range item some at),
+      length-append (items_with problem p label) (item ∷ []),
+    ))
 
--- and its frame is one in range
-pub after_frame : (problem : Parts) (p : Partial) (label : ℕ) (next sums : Sums) (before : State) → Belongs problem p → IsNext problem p next → IsState problem (range_of problem p) (labels_of p) label before
-    → sums ≡ joined before.sums next → (P : Parts → List Item → Type 0)
-    → ((problem : Parts) (items : List Item) → IsOn problem p.network → AreSums problem items sums → HasSignal problem items → P problem items)
-    → P problem (class_of label (labels_of p ++ label ∷ []) (range_of problem p))
-after_frame problem p label next sums before b is old sum P each =
-    each problem (class_of label (labels_of p ++ label ∷ []) (range_of problem p)) (record { stands = b.stands; same = b.network })
-    (sum ∙ next_sums problem p label next before.sums b is old.sums) (next_signal problem p label next b is)
+-- and its bytes are in the table of lengths
+pub bytes_low : (problem : Parts) (p : Partial) (label bytes : ℕ)
+    → IsPartial (range_of problem p) (labels_of p ++ label ∷ [])
+    → bytes ≡ bytes_of_items (class_of label (labels_of p ++ label ∷ []) (range_of problem p)) → bytes < 65
+bytes_low problem p label bytes legal is = omega (arith, is, (legal.classes label).small)
 
--- and what it costs is kept
-pub after_cost : (problem : Parts) (p : Partial) (label : ℕ) (next sums : Sums) (before : State) (frame : Timed) (share : ℕ) (cost : Cost) → Belongs problem p → IsNext problem p next → IsState problem (range_of problem p) (labels_of p) label before
-    → sums ≡ joined before.sums next
-    → frame ≡ timed_of_items problem (class_of label (labels_of p ++ label ∷ []) (range_of problem p))
-    → share ≡ p.hyper / frame.period
-    → ((problem : Parts) (items : List Item) → problem.network ≡ p.network → AreSums problem items sums → frame ≡ timed_of_items problem items → share ≡ problem.hyper / period_of_items problem items → IsCost problem items cost)
-    → IsCost problem (class_of label (labels_of p ++ label ∷ []) (range_of problem p)) cost
-after_cost problem p label next sums before frame share cost b is old sum timed often each =
-    each problem (class_of label (labels_of p ++ label ∷ []) (range_of problem p)) b.network (sum ∙ next_sums problem p label next before.sums b is old.sums) timed
-    (often ∙ ap (λ n. n / frame.period) (sym b.hyper) ∙ ap (λ (f : Timed). problem.hyper / f.period) timed)
+pub long_is : (problem : Parts) (p : Partial) (label bytes : ℕ) (long : FrameLength) → Belongs problem p
+    → IsPartial (range_of problem p) (labels_of p ++ label ∷ [])
+    → bytes ≡ bytes_of_items (class_of label (labels_of p ++ label ∷ []) (range_of problem p))
+    → long ≡ get_or p.lengths.items bytes long
+    → IsFrameLength problem.network
+    (bytes_of_items (class_of label (labels_of p ++ label ∷ []) (range_of problem p))) long
+long_is problem p label bytes long b legal is at =
+    subst (λ n. IsFrameLength problem.network n long) is
+    (subst (IsFrameLength problem.network bytes) (sym at)
+    (b.lengths bytes long (bytes_low problem p label bytes legal is)))
+
+-- its times are those of its sums
+pub put_times : (problem : Parts) (p : Partial) (label : ℕ) (sums : Sums) → Belongs problem p
+    → IsPartial (range_of problem p) (labels_of p ++ label ∷ [])
+    → AreSums problem (class_of label (labels_of p ++ label ∷ []) (range_of problem p)) sums
+    → AreTimes problem (class_of label (labels_of p ++ label ∷ []) (range_of problem p)) sums
+put_times problem p label sums b legal are =
+    times_of_sums problem b.stands (class_of label (labels_of p ++ label ∷ []) (range_of problem p))
+    (put_signal problem p label b legal) sums are
+
+-- so is its period
+pub put_period : (problem : Parts) (p : Partial) (label : ℕ) (sums : Sums) (per_us period_us : ℕ)
+    → Belongs problem p → IsPartial (range_of problem p) (labels_of p ++ label ∷ [])
+    → AreSums problem (class_of label (labels_of p ++ label ∷ []) (range_of problem p)) sums
+    → per_us ≡ p.network.ticks_per_us → period_us ≡ sums.period_us
+    → per_us * period_us
+    ≡ period_of_items problem (class_of label (labels_of p ++ label ∷ []) (range_of problem p))
+put_period problem p label sums per_us period_us b legal are per same =
+    let ticks : per_us ≡ problem.network.ticks_per_us = per ∙ ap (λ (n : Network). n.ticks_per_us) (sym b.network) in
+    let us = same ∙ (put_times problem p label sums b legal are).period in
+    λ i. ticks i * us i
+
+-- which is not 0
+pub put_sent : (problem : Parts) (p : Partial) (label : ℕ) → Belongs problem p
+    → IsPartial (range_of problem p) (labels_of p ++ label ∷ [])
+    → 1 ≤ period_of_items problem (class_of label (labels_of p ++ label ∷ []) (range_of problem p))
+put_sent problem p label b legal =
+    (frame_in_range problem (class_of label (labels_of p ++ label ∷ []) (range_of problem p)) b.stands
+    (put_signal problem p label b legal)).some_period
+
+-- how often the class of a label was sent before
+pub share_before : (problem : Parts) (p : Partial) (items : List Item) (state : State) → Belongs problem p
+    → IsKept problem items state → state.cost.share ≡ p.hyper / state.frame.period
+share_before problem p items state b kept =
+    let period : state.frame.period ≡ period_of_items problem items = ap (λ (f : Timed). f.period) kept.frame in
+    kept.cost.share ∙ ap (λ n. n / period_of_items problem items) b.hyper ∙ ap (λ n. p.hyper / n) (sym period)
+
+-- and how often it is sent
+pub share_after : (problem : Parts) (p : Partial) (items : List Item) (share period : ℕ) → Belongs problem p
+    → share ≡ p.hyper / period → period ≡ period_of_items problem items
+    → share ≡ problem.hyper / period_of_items problem items
+share_after problem p items share period b is same =
+    is ∙ ap (λ n. n / period) (sym b.hyper) ∙ ap (λ n. problem.hyper / n) same
 
 -- ---- the frames
 

@@ -2,6 +2,7 @@ pub mod After
 pub mod Classes
 pub mod Earlier
 pub mod Fronts
+pub mod Lasts
 pub mod Loads
 pub mod Options
 pub mod Puts

@@ -3,7 +3,7 @@ use Rattle.std.proofs.Common.{◌≡◌, ℕ, ◌+◌, ◌<◌, ◌≤◌, ◌�
 use Rattle.std.specs.List.{zip}
 use Rattle.std.proofs.lemmas.Bool.{cases_eq, eq-eqb, ne_eqb}
 use Rattle.std.proofs.lemmas.Grind.{get_or-set_at}
-use Rattle.std.proofs.lemmas.List.{take_more, take_more_set, take-set, take-set-le, get_or-set_other, get_or-take, get_or-drop, length-drop}
+use Rattle.std.proofs.lemmas.List.{take_more, take_more_set, get_or-set_other, get_or-take, get_or-drop, length-drop}
 use Rattle.pack_model.specs.declared.item.Item.{Item}
 use Rattle.class_frame.specs.Grouping.{class_of}
 use Rattle.class_frame.proofs.GroupingLaws.{class_of-cons}
@@ -58,24 +58,6 @@ label_put {U} P range labels table count label value some low are is k d lt = by
         (subst (P (class_of k (take count labels ++ label ∷ []) range)) (sym (get_or-set_other table label k value d other))
         (subst (λ items. P items (get_or table k d)) (sym (class-stays k (take count labels) label range (ne_eqb label k (λ e. other (sym e))))) (are k d lt)))
 
--- what was kept before it
-pub before_put : {U : Type 0} (P : ℕ → List ℕ → U → Type 0) (labels : List ℕ) (kept : List U) (count label : ℕ) (before : U) → count < length labels → count < length kept
-    → P label (take count labels) before
-    → ((i : ℕ) (d : U) → i < count → P (get_or labels i 0) (take i labels) (get_or kept i d))
-    → (i : ℕ) (d : U) → i < count + 1 → P (get_or (set labels count label) i 0) (take i (set labels count label)) (get_or (set kept count before) i d)
-before_put {U} P labels kept count label before some low is are i d lt = by (cases_eq i count)
-  where
-    move : (k m : ℕ) (ls ms : List ℕ) (u v : U) → k ≡ m → ls ≡ ms → u ≡ v → P m ms v → P k ls u
-    move k m ls ms u v e f g h = subst (λ x. P x ls u) (sym e) (subst (λ x. P m x u) (sym f) (subst (λ x. P m ms x) (sym g) h))
-
-    by : (i ≡ count) ⊎ (i ≡ count → ⊥) → P (get_or (set labels count label) i 0) (take i (set labels count label)) (get_or (set kept count before) i d)
-    by (inl same) =
-        move (get_or (set labels count label) i 0) label (take i (set labels count label)) (take count labels) (get_or (set kept count before) i d) before
-        (get_or-set_at labels count i label 0 same some) (ap (λ n. take n (set labels count label)) same ∙ take-set labels count label) (get_or-set_at kept count i before d same low) is
-    by (inr other) =
-        move (get_or (set labels count label) i 0) (get_or labels i 0) (take i (set labels count label)) (take i labels) (get_or (set kept count before) i d) (get_or kept i d)
-        (get_or-set_other labels count i label 0 other) (take-set-le i labels count label (omega arith)) (get_or-set_other kept count i before d other) (are i d (omega (arith, lt, other)))
-
 -- what a label that is taken back leaves of such a table
 pub label_back : {U : Type 0} (P : List Item → U → Type 0) (range : List Item) (labels : List ℕ) (table : List U) (n label : ℕ) (value : U) → n < length labels → label < length table → get_or labels n 0 ≡ label
     → ((k : ℕ) (d : U) → k < length table → P (class_of k (take (n + 1) labels) range) (get_or table k d))
@@ -106,3 +88,13 @@ pub element : {X : Type 0} (xs : List X) (i : ℕ) → i < length xs → (x : X)
 element [] i lt = absurd (omega arith)
 element (x ∷ xs) zero lt = (x, refl)
 element (x ∷ xs) (suc i) lt = element xs i (omega arith)
+
+-- a table that is written up to a place, and one more
+pub set_more : {U : Type 0} (P : ℕ → U → Type 0) (xs : List U) (n : ℕ) (v : U) → n < length xs → P n v
+    → ((k : ℕ) (d : U) → k < n → P k (get_or xs k d)) → (k : ℕ) (d : U) → k < n + 1 → P k (get_or (set xs n v) k d)
+set_more {U} P xs n v low is before k d lt = by (cases_eq k n)
+  where
+    by : (k ≡ n) ⊎ (k ≡ n → ⊥) → P k (get_or (set xs n v) k d)
+    by (inl same) =
+        subst (P k) (sym (get_or-set_at xs n k v d same low)) (subst (λ m. P m v) (sym same) is)
+    by (inr ne) = subst (P k) (sym (get_or-set_other xs n k v d ne)) (before k d (omega (arith, lt, ne)))

@@ -1,10 +1,12 @@
 -- What belonging gives: room for the next label, small sums, and a signal for each used label.
-use Rattle.std.proofs.Common.{◌≡◌, ◌<◌, ◌≤◌, ◌+◌, ℕ, Bool, true, false, IsTrue, ◌↔◌, [], ◌∷◌, ◌++◌, List, length, take, drop, fold, get_or, min, nat_eq, Some, All, sym, ap, subst, ◌∙◌, arith, length-append, length-take-le, refl}
+use Rattle.std.proofs.Common.{◌≡◌, ◌<◌, ◌≤◌, ◌+◌, ℕ, zero, suc, Bool, true, false, IsTrue, ◌↔◌, [], ◌∷◌, ◌++◌, List, length, take, drop, fold, get_or, min, nat_eq, Some, All, sym, ap, subst, ◌∙◌, arith, length-append, length-take-le, refl}
 use Rattle.std.proofs.lemmas.Bool.{false≢true, ne_eqb}
+use Rattle.std.proofs.lemmas.Grind.{get_or_default_zero}
 use Rattle.std.proofs.lemmas.List.{get_or-take}
 use Rattle.std.proofs.lemmas.List.Elements.{All-weaker}
 use Rattle.std.proofs.lemmas.List.Sorted.{IsPermutation-refl}
 use Rattle.pack_model.specs.declared.item.Item.{Item}
+use Rattle.pack_model.specs.declared.network.Network.{Network}
 use Rattle.pack_model.specs.Problem.{Parts, IsProblem, items_in_order, senders_of}
 use Rattle.pack_model.proofs.ItemFacts.{IsItemOf, items_of_signals, small_items}
 use Rattle.pack_model.proofs.Laws.{tests}
@@ -23,8 +25,9 @@ use Rattle.class_frame.proofs.Joining.{sums_of-append}
 use Rattle.class_frame.proofs.Tables.{joined_small}
 use Rattle.class_frame.proofs.Used.{items_have_signal, class_is_small}
 use Rattle.grouping_tree.specs.Partial.{IsPartial, is_class, keeps_legal}
-use Rattle.grouping_tree.specs.Grouped.{Belongs, IsNext, IsUsed, items_with, labels_of, range_of, room_of, slack_at}
+use Rattle.grouping_tree.specs.Grouped.{Belongs, IsFrameLength, IsNext, IsUsed, items_with, labels_of, range_of, room_of, slack_at}
 use Rattle.grouping_tree.specs.Slack.{last_sender, sender_in_work, slack_in_work, slack_of, slacks_of}
+use Rattle.grouping_tree.specs.declared.frame_length.FrameLength.{FrameLength}
 use Rattle.grouping_tree.specs.declared.partial.Partial.{Partial}
 use Rattle.grouping_tree.proofs.Fronts.{partial-append}
 use Rattle.grouping_tree.proofs.Loads.{over_put, no_load, load_low, loads_low}
@@ -82,6 +85,24 @@ low_room problem p label b some low = omega (arith, low, some, classes_few probl
 pub put_room : (problem : Parts) (p : Partial) (label : ℕ) → Belongs problem p → IsPartial (range_of problem p) (labels_of p ++ label ∷ []) → (p.count < p.many) × (label ≤ classes_of (labels_of p))
 put_room problem p label b legal =
     (omega (arith, counted problem p b, long problem p b, legal.within, length-append (labels_of p) (label ∷ [])), next-low (range_of problem p) (labels_of p) label legal)
+
+-- the class of a label got its last item among those with a label
+pub found_low : (problem : Parts) (p : Partial) (label last : ℕ) → Belongs problem p → label < room_of p
+    → last ≡ get_or p.last.items label last → last ≤ p.count
+found_low problem p label last b low at = by last refl
+  where
+    is : last ≡ get_or p.last.items label 0
+    is = at ∙ get_or_default_zero p.last.items label last (omega (arith, b.last_room, low))
+
+    by : (n : ℕ) → last ≡ n → last ≤ p.count
+    by zero e = omega (arith, e)
+    by (suc i) e = let before : i < p.count = (b.last label low i (sym is ∙ e ∙ (let one : suc i ≡ i + 1 = omega arith in one))).0 in omega (arith, before, e)
+
+-- the lengths of frames on a network are those on the same one
+pub same_lengths : (a b : Network) (lengths : List FrameLength) → a ≡ b
+    → ((k : ℕ) (d : FrameLength) → k < 65 → IsFrameLength a k (get_or lengths k d))
+    → (k : ℕ) (d : FrameLength) → k < 65 → IsFrameLength b k (get_or lengths k d)
+same_lengths a b lengths same each k d lt = subst (λ n. IsFrameLength n k (get_or lengths k d)) same (each k d lt)
 
 -- a used label has room
 pub used_room : (problem : Parts) (p : Partial) (label : ℕ) → Belongs problem p → IsUsed p label → label < room_of p

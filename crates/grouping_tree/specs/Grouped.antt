@@ -1,8 +1,11 @@
 -- Running sums of a partial grouping of a range of items: the project's own.
-use Rattle.std.specs.Prelude.{ℕ, ◌≡◌, ◌<◌, ◌≤◌, ◌+◌, ◌-◌, ◌/◌, List, [], ◌∷◌, length, take, drop, slice_index, slice_index_or, Option, None, Some}
+use Rattle.std.specs.Prelude.{ℕ, ◌≡◌, ◌<◌, ◌≤◌, ◌+◌, ◌-◌, ◌/◌, unwrap_or, List, [], ◌∷◌, length, take, drop, slice_index, slice_index_or, Option, None, Some}
 use Rattle.pack_model.specs.declared.item.Item.{Item}
 use Rattle.pack_model.specs.Problem.{Parts, IsProblem, sent_by}
 use Rattle.class_frame.specs.Grouping.{class_of, classes_of}
+use Rattle.fd_length.specs.Size.{fd_size_of}
+use Rattle.frame_ticks.specs.Worst.{worst_ticks_of}
+use Rattle.pack_model.specs.declared.network.Network.{Network}
 use Rattle.busy_period.specs.declared.timed.Timed.{Timed}
 use Rattle.class_frame.specs.Classes.{load_of}
 use Rattle.class_frame.specs.Frame.{load_of_items, period_of_items, timed_of_items}
@@ -10,7 +13,8 @@ use Rattle.class_frame.specs.Sums.{AreSums}
 use Rattle.class_frame.specs.declared.sums.Sums.{Sums}
 use Rattle.grouping_tree.specs.Partial.{IsPartial}
 use Rattle.grouping_tree.specs.declared.partial.Partial.{Partial}
-use Rattle.grouping_tree.specs.declared.partial.State.{State}
+use Rattle.grouping_tree.specs.declared.frame_length.FrameLength.{FrameLength}
+use Rattle.grouping_tree.specs.declared.kept.State.{State}
 use Rattle.grouping_tree.specs.declared.cost.Cost.{Cost}
 use Rattle.grouping_tree.specs.Slack.{sender_in_work, slack_in_work, slack_of}
 
@@ -69,18 +73,37 @@ pub record IsCost (problem : Parts) (items : List Item) (cost : Cost) : Type 0 w
   pub load : cost.load ≡ load_of_items problem items
   pub slack : cost.slack ≡ slack_of problem items
 
--- what is kept of the class of a label after some labels, and of all classes: the sums of the label's items,
--- what the class costs, the class as a frame, and the number of classes, how many there were when the sender in
--- work began, the load and the slack
-pub record IsState (problem : Parts) (range : List Item) (labels : List ℕ) (label : ℕ) (state : State)
-    : Type 0 where
-  pub sums : AreSums problem (class_of label labels range) state.sums
-  pub cost : IsCost problem (class_of label labels range) state.cost
-  pub frame : state.frame ≡ timed_of_items problem (class_of label labels range)
+-- how many numbers of bytes the items of a frame can have: 0 to 64
+abbrev pub lengths_room : ℕ
+lengths_room = 65
+
+-- the data length and the ticks of the frame of items of so many bytes
+pub record IsFrameLength (network : Network) (bytes : ℕ) (long : FrameLength) : Type 0 where
+  pub size : long.size ≡ unwrap_or (fd_size_of bytes) 0
+  pub ticks : long.ticks ≡ worst_ticks_of network (unwrap_or (fd_size_of bytes) 0)
+
+-- what is kept of a class: its items' sums, what it costs, and the class as a frame
+pub record IsKept (problem : Parts) (items : List Item) (state : State) : Type 0 where
+  pub sums : AreSums problem items state.sums
+  pub cost : IsCost problem items state.cost
+  pub frame : state.frame ≡ timed_of_items problem items
+
+-- and of all classes: how many there are, how many there were when the sender in work began, the load and the slack
+pub record AreKept (problem : Parts) (range : List Item) (labels : List ℕ) (state : State) : Type 0 where
   pub classes : state.classes ≡ classes_of labels
   pub first : AreEarlier range labels state.first_label
   pub load : state.load ≡ load_of problem range labels
   pub slack : state.slack ≡ slack_at problem range labels
+
+-- what is kept once the last of some labels is put: of its class, and of all
+pub record IsState (problem : Parts) (range : List Item) (labels : List ℕ) (label : ℕ) (state : State)
+    : Type 0 where
+  pub own : IsKept problem (class_of label labels range) state
+  pub all : AreKept problem range labels state
+
+-- a number of items, none or one after an item with the label among the first so many
+abbrev pub IsLast : List ℕ → ℕ → ℕ → ℕ → Type 0
+IsLast labels count label last = (i : ℕ) → last ≡ i + 1 → (i < count) × (slice_index labels i ≡ label)
 
 -- the problem stands, the range is there in it, has the sender's items and has room, the labels are a partial grouping of it, and what is kept is that of the labels: of all, and of those before each
 pub record Belongs (problem : Parts) (p : Partial) : Type 0 where
@@ -92,9 +115,10 @@ pub record Belongs (problem : Parts) (p : Partial) : Type 0 where
   pub within : p.count ≤ p.many
   pub enough : p.many ≤ room_of p
   pub items_room : length p.items.items ≡ room_of p
-  pub sums_room : length p.sums.items ≡ room_of p
-  pub costs_room : length p.costs.items ≡ room_of p
   pub frames_room : length p.frames.items ≡ room_of p
+  pub sizes_room : length p.lengths.items ≡ lengths_room
+  pub states_room : length p.states.items ≡ room_of p + 1
+  pub last_room : length p.last.items ≡ room_of p
   pub before_room : length p.before.items ≡ room_of p
   pub legal : IsPartial (range_of problem p) (labels_of p)
   pub low : (i : ℕ) → i < p.count → slice_index p.labels.items i < room_of p
@@ -103,10 +127,13 @@ pub record Belongs (problem : Parts) (p : Partial) : Type 0 where
   pub load : p.load ≡ load_of problem (range_of problem p) (labels_of p)
   pub slack : p.slack ≡ slack_at problem (range_of problem p) (labels_of p)
   pub items : AreEach problem (range_of problem p) p.items.items
-  pub sums : (label : ℕ) (d : Sums) → label < room_of p → AreSums problem (items_with problem p label) (slice_index_or p.sums.items label d)
-  pub costs : (label : ℕ) (d : Cost) → label < room_of p → IsCost problem (items_with problem p label) (slice_index_or p.costs.items label d)
   pub frames : (label : ℕ) (d : Timed) → label < room_of p → slice_index_or p.frames.items label d ≡ timed_of_items problem (items_with problem p label)
-  pub before : (i : ℕ) (d : State) → i < p.count → IsState problem (range_of problem p) (take i p.labels.items) (slice_index p.labels.items i) (slice_index_or p.before.items i d)
+  pub lengths : (bytes : ℕ) (d : FrameLength) → bytes < lengths_room → IsFrameLength problem.network bytes (slice_index_or p.lengths.items bytes d)
+  pub kept : (label : ℕ) (d : State) → label < room_of p → IsKept problem (items_with problem p label) (slice_index_or p.states.items (slice_index p.last.items label) d)
+  pub last : (label : ℕ) → label < room_of p → IsLast p.labels.items p.count label (slice_index p.last.items label)
+  pub before : (i : ℕ) (d : State) → i < p.count → IsKept problem (class_of (slice_index p.labels.items i) (take i p.labels.items) (range_of problem p)) (slice_index_or p.states.items (slice_index p.before.items i) d)
+  pub last_before : (i : ℕ) → i < p.count → IsLast p.labels.items i (slice_index p.labels.items i) (slice_index p.before.items i)
+  pub all : (i : ℕ) (d : State) → i ≤ p.count → AreKept problem (range_of problem p) (take i p.labels.items) (slice_index_or p.states.items i d)
 
 -- an item is left, and these are its sums
 pub record IsNext (problem : Parts) (p : Partial) (next : Sums) : Type 0 where

@@ -3,12 +3,11 @@ ghost use Rattle.std.specs.Prelude.{◌≡◌, ◌≤◌, ◌/◌, List, []};
 ghost use Rattle.pack_model.specs.Network.{NetworkStands};
 ghost use Rattle.pack_model.specs.Problem.{Parts};
 ghost use Rattle.pack_model.specs.declared.item.Item.{Item};
-ghost use Rattle.class_frame.specs.Frame.{timed_of_items, period_of_items};
-ghost use Rattle.class_frame.specs.Sums.{AreSums, IsSmall};
-ghost use Rattle.grouping_tree.specs.Grouped.{IsCost};
+ghost use Rattle.class_frame.specs.Frame.{bytes_of_items, timed_of_items, period_of_items, weight_of_items};
+ghost use Rattle.grouping_tree.specs.Grouped.{IsCost, IsFrameLength};
 
+use crate::frame_length::FrameLength;
 use busy_period::Timed;
-use class_frame::Sums;
 use frame_ticks::worst_ticks;
 use pack_model::Network;
 
@@ -35,20 +34,20 @@ impl Cost {
         }
     }
 
-    /// What a class of these sums and this frame costs, which is sent `share` times in a common period.
-    pub fn of(network: &Network, sums: Sums, frame: Timed, share: u64) -> Cost
-        requires small { IsSmall sums }
-        requires stands { NetworkStands network.now }
-        ensures { (problem : Parts) (items : List Item) → problem.network ≡ network.now → AreSums problem items sums
-            → frame ≡ timed_of_items problem items → share ≡ problem.hyper / period_of_items problem items
-            → IsCost problem items result }
+    /// What a class of this weight costs, whose frame has this length and is sent `share` times in a common
+    /// period.
+    pub fn of(network: &Network, weight: u32, long: FrameLength, share: u64) -> Cost
+        requires { NetworkStands network.now }
+        ensures { (problem : Parts) (items : List Item) → problem.network ≡ network.now
+            → weight ≡ weight_of_items items → IsFrameLength problem.network (bytes_of_items items) long
+            → share ≡ problem.hyper / period_of_items problem items → IsCost problem items result }
     {
-        let size = u64::from(sums.size().unwrap_or(0));
-        let free_bits = (8 * size).saturating_sub(u64::from(sums.weight));
+        let size = u64::from(long.size);
+        let free_bits = (8 * size).saturating_sub(u64::from(weight));
         let free_ticks = 10 * u64::from(network.data_ticks) * free_bits;
         Cost {
             share,
-            load: u128::from(frame.ticks) * u128::from(share),
+            load: u128::from(long.ticks) * u128::from(share),
             slack: u128::from(free_ticks) * u128::from(share),
         }
     }

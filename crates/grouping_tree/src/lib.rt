@@ -5,15 +5,19 @@
 #![tactic(auto)]
 
 mod cost;
+mod frame_length;
+mod kept;
 mod laws;
 mod partial;
+mod place;
 mod walk;
 
+pub use kept::{Ahead, Kept};
 pub use laws::{
     classes_extend, classes_grow, fronts_are_legal, full_is_legal, legal_is_partial, new_is_option,
     next_is_option, options_are_legal, options_ascend,
 };
-pub use partial::{Ahead, Kept, Partial};
+pub use partial::Partial;
 
 #[cfg(test)]
 mod tests;

@@ -11,16 +11,19 @@ ghost use Rattle.class_frame.specs.Grouping.{class_of, classes_of};
 ghost use Rattle.class_frame.specs.Sums.{AreSums, IsSmall};
 ghost use Rattle.class_frame.specs.declared.sums.Sums.{Sums};
 ghost use Rattle.grouping_tree.specs.Partial.{IsPartial, keeps_legal, options_of};
-ghost use Rattle.grouping_tree.specs.Grouped.{AreEach, AreEarlier, Belongs, IsCost, IsNext, IsState, IsUsed, items_in, items_with, sender_of, labels_of, range_of, room_of};
+ghost use Rattle.grouping_tree.specs.Grouped.{AreEach, AreEarlier, Belongs, IsCost, IsNext, IsKept, IsState, IsUsed, items_in, items_with, sender_of, labels_of, range_of, room_of, slack_at};
 ghost use Rattle.grouping_tree.specs.declared.cost.Cost.{Cost};
 ghost use Rattle.busy_period.specs.declared.timed.Timed.{Timed};
 ghost use Rattle.grouping_tree.specs.Slack.{sender_in_work, slack_in_work, slacks_of};
 ghost use Rattle.grouping_tree.specs.Walk.{options_from, places_below, places_left};
 
-use crate::cost::{Cost, no_frame, share_of};
+use crate::cost::{Cost, share_of};
+use crate::frame_length::{FrameLength, LENGTHS, write_lengths};
+use crate::kept::{Ahead, Kept, State, clear};
+use crate::place::{place_in, write_sums};
 use busy_period::Timed;
 use class_frame::Sums;
-use pack_model::{Item, Memory, Network, Problem};
+use pack_model::{Memory, Network, Problem};
 use std::alloc::Global;
 
 /// The labels of the first items of a range, and what is kept of each label's class.
@@ -50,33 +53,17 @@ pub struct Partial {
     labels: Vec<u32>,
     /// The sums of each item of the range.
     items: Vec<Sums>,
-    /// The sums of the items of each label.
-    sums: Vec<Sums>,
-    /// What the class of each label costs.
-    costs: Vec<Cost>,
     /// The class of each label as a frame.
     frames: Vec<Timed>,
-    /// What was kept before each item got its label.
-    before: Vec<State>,
-}
-
-/// What is kept of the class of a label and of all classes.
-#[derive(Clone, Copy, Debug, PartialEq, Eq)]
-struct State {
-    /// The sums of the items of the label.
-    sums: Sums,
-    /// What their class costs.
-    cost: Cost,
-    /// The class as a frame.
-    frame: Timed,
-    /// The number of classes.
-    classes: u32,
-    /// How many there were when the sender in work began.
-    first_label: u32,
-    /// The loads of these together.
-    load: u128,
-    /// The slacks of those of the sender in work together.
-    slack: u128,
+    /// How long the frame of items of each number of bytes is.
+    lengths: Vec<FrameLength>,
+    /// What is kept of the class of each item's label, and of all classes, once it got it; before these, what is
+    /// kept where no item has one.
+    states: Vec<State>,
+    /// After how many items the class of each label got its last one; 0 where it has none.
+    last: Vec<usize>,
+    /// What `last` had for each item's label before it got it.
+    before: Vec<usize>,
 }
 
 impl Partial {
@@ -115,18 +102,11 @@ impl Partial {
         ensures room { IfOk result (λ partial. room_of partial ≡ length (items_in problem.now.items sender)) }
     {
         let place = place_in(problem, sender);
-        let frame = no_frame(problem.network());
-        let none = State {
-            sums: Sums::none(),
-            cost: Cost::none(),
-            frame,
-            classes: 0,
-            first_label: 0,
-            load: 0,
-            slack: 0,
-        };
+        let none = State::none(problem.network());
         let mut items = vec![in alloc; none.sums; place.many]?;
         write_sums(&mut items, problem, place);
+        let mut lengths = vec![in alloc; FrameLength::none(); LENGTHS as usize]?;
+        write_lengths(&mut lengths, problem.network());
         Ok(Partial {
             network: *problem.network(),
             hyper: problem.hyper(),
@@ -140,10 +120,11 @@ impl Partial {
             slack: 0,
             labels: vec![in alloc; 0; place.many]?,
             items,
-            sums: vec![in alloc; none.sums; place.many]?,
-            costs: vec![in alloc; none.cost; place.many]?,
             frames: vec![in alloc; none.frame; place.many]?,
-            before: vec![in alloc; none; place.many]?,
+            lengths,
+            states: vec![in alloc; none; place.many + 1]?,
+            last: vec![in alloc; 0; place.many]?,
+            before: vec![in alloc; 0; place.many]?,
         })
     }
 
@@ -172,12 +153,10 @@ impl Partial {
         self.load = 0;
         self.slack = 0;
         write_sums(&mut self.items, problem, place);
-        clear(
-            &mut self.sums,
-            &mut self.costs,
-            &mut self.frames,
-            no_frame(problem.network()),
-        );
+        write_lengths(&mut self.lengths, problem.network());
+        let none = State::none(problem.network());
+        clear(&mut self.last, &mut self.frames, none.frame);
+        self.states[0] = none;
     }
 
     /// The number of the sender whose items the range has; none over all items.
@@ -296,7 +275,7 @@ impl Partial {
             (class_of label (labels_of self.now ++ label ∷ []) (range_of problem self.now)) result }
         ensures small { IsSmall result }
     {
-        self.sums[label as usize].join(next)
+        self.kept_of(label).sums.join(next)
     }
 
     /// Whether the next item, whose sums are `next`, may get a label.
@@ -309,53 +288,101 @@ impl Partial {
         self.sums_with(label, next).stands()
     }
 
-    /// What is kept of the class of a label, and of all classes.
-    fn state(&self, label: u32) -> State
+    /// What is kept of the class of a label.
+    fn kept_of(&self, label: u32) -> &State
         requires belongs { (problem : Parts) × Belongs problem self.now }
         requires low { label < room_of self.now }
         ensures { (problem : Parts) → Belongs problem self.now
-            → IsState problem (range_of problem self.now) (labels_of self.now) label result }
+            → IsKept problem (items_with problem self.now label) result.now }
     {
-        let place = label as usize;
-        State {
-            sums: self.sums[place],
-            cost: self.costs[place],
-            frame: self.frames[place],
-            classes: self.classes,
-            first_label: self.first_label,
-            load: self.load,
-            slack: self.slack,
-        }
+        &self.states[self.last[label as usize]]
     }
 
-    /// The same once the next item has the label too: one that may be put next, of which `before` is kept.
-    fn with_next(&self, label: u32, before: &State) -> State
+    /// What is kept once the next item has a label, one that may be put next.
+    fn with_next(&self, label: u32) -> State
         requires { (problem : Parts) × Belongs problem self.now
-            × IsPartial (range_of problem self.now) (labels_of self.now ++ label ∷ [])
-            × IsState problem (range_of problem self.now) (labels_of self.now) label before.now }
+            × IsPartial (range_of problem self.now) (labels_of self.now ++ label ∷ []) }
         ensures { (problem : Parts) → Belongs problem self.now
             → IsPartial (range_of problem self.now) (labels_of self.now ++ label ∷ [])
-            → IsState problem (range_of problem self.now) (labels_of self.now) label before.now
             → IsState problem (range_of problem self.now) (labels_of self.now ++ label ∷ []) label result }
     {
         let next = self.next_sums();
-        let sums = before.sums.join(next);
-        let frame = sums.timed(&self.network);
-        let share = share_of(
-            self.hyper,
-            frame.period,
-            before.frame.period,
-            before.cost.share,
-        );
-        let cost = Cost::of(&self.network, sums, frame, share);
-        let other_loads = self.load - before.cost.load;
-        let other_slacks = self.slacks_beside(next) - before.cost.slack;
+        let sums = self.sums_with(label, next);
+        let cost = self.cost_with(label, sums);
+        let all = self.all_with(label, next, cost);
         State {
             sums,
             cost,
-            frame,
+            frame: self.frame_with(label, sums),
             classes: self.classes.max(label + 1),
             first_label: self.first_option(next),
+            load: all.load,
+            slack: all.slack,
+        }
+    }
+
+    /// The frame of a label, one that may be put next, once the next item has it too and `sums` are those of its
+    /// items.
+    fn frame_with(&self, label: u32, sums: Sums) -> Timed
+        requires small { IsSmall sums }
+        requires sums { (problem : Parts) × Belongs problem self.now
+            × IsPartial (range_of problem self.now) (labels_of self.now ++ label ∷ [])
+            × AreSums problem
+            (class_of label (labels_of self.now ++ label ∷ []) (range_of problem self.now)) sums }
+        ensures { (problem : Parts) → Belongs problem self.now
+            → IsPartial (range_of problem self.now) (labels_of self.now ++ label ∷ [])
+            → AreSums problem (class_of label (labels_of self.now ++ label ∷ []) (range_of problem self.now)) sums
+            → result ≡ timed_of_items problem
+            (class_of label (labels_of self.now ++ label ∷ []) (range_of problem self.now)) }
+    {
+        let ticks_per_us = u64::from(self.network.ticks_per_us);
+        Timed {
+            period: ticks_per_us * u64::from(sums.period_us),
+            jitter: ticks_per_us * u64::from(sums.jitter_us),
+            ticks: self.lengths[sums.frame_bytes() as usize].ticks,
+            deadline: ticks_per_us * u64::from(sums.deadline_us),
+        }
+    }
+
+    /// What the class of a label costs then.
+    fn cost_with(&self, label: u32, sums: Sums) -> Cost
+        requires small { IsSmall sums }
+        requires sums { (problem : Parts) × Belongs problem self.now
+            × IsPartial (range_of problem self.now) (labels_of self.now ++ label ∷ [])
+            × AreSums problem
+            (class_of label (labels_of self.now ++ label ∷ []) (range_of problem self.now)) sums }
+        ensures { (problem : Parts) → Belongs problem self.now
+            → IsPartial (range_of problem self.now) (labels_of self.now ++ label ∷ [])
+            → AreSums problem (class_of label (labels_of self.now ++ label ∷ []) (range_of problem self.now)) sums
+            → IsCost problem
+            (class_of label (labels_of self.now ++ label ∷ []) (range_of problem self.now)) result }
+    {
+        let long = self.lengths[sums.frame_bytes() as usize];
+        let period = u64::from(self.network.ticks_per_us) * u64::from(sums.period_us);
+        let before = self.kept_of(label);
+        let share = share_of(self.hyper, period, before.frame.period, before.cost.share);
+        Cost::of(&self.network, sums.weight, long, share)
+    }
+
+    /// What all classes come to then, where the next item has the sums `next`, and the class of the label costs
+    /// `cost`.
+    fn all_with(&self, label: u32, next: Sums, cost: Cost) -> Ahead
+        requires { (problem : Parts) × Belongs problem self.now × IsNext problem self.now next
+            × IsPartial (range_of problem self.now) (labels_of self.now ++ label ∷ [])
+            × IsCost problem (class_of label (labels_of self.now ++ label ∷ []) (range_of problem self.now)) cost }
+        ensures load { (problem : Parts) → Belongs problem self.now → IsNext problem self.now next
+            → IsPartial (range_of problem self.now) (labels_of self.now ++ label ∷ [])
+            → IsCost problem (class_of label (labels_of self.now ++ label ∷ []) (range_of problem self.now)) cost
+            → result.load ≡ load_of problem (range_of problem self.now) (labels_of self.now ++ label ∷ []) }
+        ensures slack { (problem : Parts) → Belongs problem self.now → IsNext problem self.now next
+            → IsPartial (range_of problem self.now) (labels_of self.now ++ label ∷ [])
+            → IsCost problem (class_of label (labels_of self.now ++ label ∷ []) (range_of problem self.now)) cost
+            → result.slack ≡ slack_at problem (range_of problem self.now) (labels_of self.now ++ label ∷ []) }
+    {
+        let before = self.kept_of(label).cost;
+        let other_loads = self.load - before.load;
+        let other_slacks = self.slacks_beside(next) - before.slack;
+        Ahead {
             load: other_loads + cost.load,
             slack: other_slacks + cost.slack,
         }
@@ -402,18 +429,18 @@ impl Partial {
         ensures sender { sender_of self.new ≡ sender_of self.old }
         ensures room { room_of self.new ≡ room_of self.old }
     {
-        let before = self.state(label);
-        let after = self.with_next(label, &before);
-        self.before[self.count] = before;
+        let after = self.with_next(label);
+        let place = label as usize;
         self.labels[self.count] = label;
-        self.sums[label as usize] = after.sums;
-        self.costs[label as usize] = after.cost;
-        self.frames[label as usize] = after.frame;
+        self.before[self.count] = self.last[place];
+        self.count += 1;
+        self.last[place] = self.count;
+        self.frames[place] = after.frame;
         self.classes = after.classes;
         self.first_label = after.first_label;
         self.load = after.load;
         self.slack = after.slack;
-        self.count += 1;
+        self.states[self.count] = after;
     }
 
     /// Takes the last label away.
@@ -427,15 +454,15 @@ impl Partial {
         ensures room { room_of self.new ≡ room_of self.old }
     {
         self.count -= 1;
-        let before = &self.before[self.count];
-        let label = self.labels[self.count];
-        self.sums[label as usize] = before.sums;
-        self.costs[label as usize] = before.cost;
-        self.frames[label as usize] = before.frame;
-        self.classes = before.classes;
-        self.first_label = before.first_label;
-        self.load = before.load;
-        self.slack = before.slack;
+        let place = self.labels[self.count] as usize;
+        let last = self.before[self.count];
+        self.last[place] = last;
+        self.frames[place] = self.states[last].frame;
+        let all = &self.states[self.count];
+        self.classes = all.classes;
+        self.first_label = all.first_label;
+        self.load = all.load;
+        self.slack = all.slack;
     }
 
     /// What is kept of the class of a used label, for every problem to which the partial grouping belongs.
@@ -449,11 +476,11 @@ impl Partial {
         ensures size { (problem : Parts) → Belongs problem self.now
             → Some result.size ≡ size_of_items (items_with problem self.now label) }
     {
-        let sums = self.sums[label as usize];
+        let kept = self.kept_of(label);
         Kept {
-            weight: sums.weight,
-            size: sums.size().unwrap_or(0),
-            timed: sums.timed(&self.network),
+            weight: kept.sums.weight,
+            size: kept.sums.size().unwrap_or(0),
+            timed: kept.frame,
         }
     }
 
@@ -492,12 +519,9 @@ impl Partial {
             (labels_of self.now ++ label ∷ [])
             (sender_in_work (range_of problem self.now) (labels_of self.now ++ label ∷ [])) }
     {
-        let before = self.state(label);
-        let after = self.with_next(label, &before);
-        Ahead {
-            load: after.load,
-            slack: after.slack,
-        }
+        let next = self.next_sums();
+        let cost = self.cost_with(label, self.sums_with(label, next));
+        self.all_with(label, next, cost)
     }
 
     /// The classes as frames, by label, in ticks, for every problem to which the partial grouping belongs.
@@ -540,101 +564,5 @@ impl Partial {
         ensures { result ≡ weight_of_items (items_with problem.now self.now label) }
     {
         self.kept(label).weight
-    }
-}
-
-/// What all classes come to once the next item has a label.
-#[derive(Clone, Copy, Debug, PartialEq, Eq)]
-pub struct Ahead {
-    /// Their loads together, in ticks a common period.
-    pub load: u128,
-    /// The slacks of the classes of the sender in work then, in eighths of ticks a common period.
-    pub slack: u128,
-}
-
-/// What is kept of a class.
-#[derive(Clone, Copy, Debug, PartialEq, Eq)]
-pub struct Kept {
-    /// The weights of its items together.
-    pub weight: u32,
-    /// The data length of its frame, in bytes.
-    pub size: u32,
-    /// Its frame, in ticks.
-    pub timed: Timed,
-}
-
-/// The items of a range, as a piece of a problem's.
-#[derive(Clone, Copy, Debug, PartialEq, Eq)]
-struct Place {
-    /// The place of the first of them.
-    first: usize,
-    /// How many there are.
-    many: usize,
-}
-
-/// The place of the items of a sender, or of all.
-fn place_in(problem: &Problem, sender: Option<u32>) -> Place
-    ensures slice { take result.many (drop result.first problem.now.items)
-        ≡ items_in problem.now.items sender }
-    ensures inside { result.first + result.many ≤ length problem.now.items }
-{
-    let items = problem.items();
-    match sender {
-        Some(number) => Place {
-            first: count_before(items, number),
-            many: count_of(items, number),
-        },
-        None => Place {
-            first: 0,
-            many: items.len(),
-        },
-    }
-}
-
-/// How many items are of senders before one.
-fn count_before(items: &[Item], sender: u32) -> usize
-    ensures { result ≡ count_by (λ item. nat_lt item.sender sender) items.now }
-{
-    items.iter().filter(|item| item.sender < sender).count()
-}
-
-/// How many items are of a sender.
-fn count_of(items: &[Item], sender: u32) -> usize
-    ensures { result ≡ count_by (λ item. nat_eq item.sender sender) items.now }
-{
-    items.iter().filter(|item| item.sender == sender).count()
-}
-
-/// Writes the sums of each item of a range.
-fn write_sums(sums: &mut Vec<Sums>, problem: &Problem, place: Place)
-    requires room { place.many ≤ length sums.old.items }
-    requires inside { place.first + place.many ≤ length problem.now.items }
-    ensures room { length sums.new.items ≡ length sums.old.items }
-    ensures each { AreEach problem.now (take place.many (drop place.first problem.now.items)) sums.new.items }
-{
-    for number in 0..place.many {
-        sums[number] = Sums::of(problem, &problem.items()[place.first + number]);
-    }
-}
-
-/// Makes all classes those of no items, whose frame is `frame`.
-fn clear(sums: &mut Vec<Sums>, costs: &mut Vec<Cost>, frames: &mut Vec<Timed>, frame: Timed)
-    requires costs { length costs.old.items ≡ length sums.old.items }
-    requires frames { length frames.old.items ≡ length sums.old.items }
-    ensures sums_room { length sums.new.items ≡ length sums.old.items }
-    ensures costs_room { length costs.new.items ≡ length sums.old.items }
-    ensures frames_room { length frames.new.items ≡ length sums.old.items }
-    ensures sums { (problem : Parts) (label : ℕ) (d : Sums) → label < length sums.old.items
-        → AreSums problem [] (slice_index_or sums.new.items label d) }
-    ensures costs { (problem : Parts) (label : ℕ) (d : Cost) → label < length sums.old.items
-        → IsCost problem [] (slice_index_or costs.new.items label d) }
-    ensures frames { (label : ℕ) (d : Timed) → label < length sums.old.items
-        → slice_index_or frames.new.items label d ≡ frame }
-{
-    let many = sums.len();
-    for label in 0..many {
-        sums[label] = Sums::none();
-        costs[label] = Cost::none();
-        frames[label] = frame;
     }
 }

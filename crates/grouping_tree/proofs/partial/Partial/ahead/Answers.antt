@@ -1,22 +1,47 @@
-use Rattle.grouping_tree.proofs.Used.{low_room, put_room}
+use Rattle.std.proofs.Common.{arith}
+use Rattle.grouping_tree.proofs.Used.{counted, long, put_room}
 use Rattle.grouping_tree.proofs.partial.Partial.ahead.Goals as goal
 
-pub state-before-requires : goal.state-before-requires
-state-before-requires c =
+pub next_sums-next-requires : goal.next_sums-next-requires
+next_sums-next-requires c =
     let (problem, b, legal) = c.requires in
-    let p = c.args.self.now in
-    let (some, low) = put_room problem p c.args.label b legal in
-    record { belongs = (problem, b); low = low_room problem p c.args.label b some low }
+    let p = c.args.self.now in (
+      problem,
+      b,
+      omega (arith, (put_room problem p c.args.label b legal).0, counted problem p b, long problem p b),
+    )
 
-pub with_next-after-requires : goal.with_next-after-requires
-with_next-after-requires c =
+pub sums_with-requires : goal.sums_with-requires
+sums_with-requires c =
     let (problem, b, legal) = c.requires in
-    (problem, b, legal, c.state-before.ensures problem b)
+    record {
+      next = (problem, b, c.next_sums-next.ensures problem b);
+      low = (put_room problem c.args.self.now c.args.label b legal).1;
+    }
+
+pub cost_with-cost-requires : goal.cost_with-cost-requires
+cost_with-cost-requires c =
+    let (problem, b, legal) = c.requires in
+    let next = c.next_sums-next.ensures problem b in
+    record {
+      small = c.sums_with.ensures.small;
+      sums = (problem, b, legal, c.sums_with.ensures.sums problem b next);
+    }
+
+pub all_with-requires : goal.all_with-requires
+all_with-requires c =
+    let (problem, b, legal) = c.requires in
+    let next = c.next_sums-next.ensures problem b in
+    (problem, b, next, legal, c.cost_with-cost.ensures problem b legal (c.sums_with.ensures.sums problem b next))
 
 pub returns-clause-load : goal.returns-clause-load
 returns-clause-load c = λ problem b legal.
-    (c.with_next-after.ensures problem b legal (c.state-before.ensures problem b)).load
+    let next = c.next_sums-next.ensures problem b in
+    c.all_with.ensures.load problem b next legal
+    (c.cost_with-cost.ensures problem b legal (c.sums_with.ensures.sums problem b next))
 
 pub returns-clause-slack : goal.returns-clause-slack
 returns-clause-slack c = λ problem b legal.
-    (c.with_next-after.ensures problem b legal (c.state-before.ensures problem b)).slack
+    let next = c.next_sums-next.ensures problem b in
+    c.all_with.ensures.slack problem b next legal
+    (c.cost_with-cost.ensures problem b legal (c.sums_with.ensures.sums problem b next))

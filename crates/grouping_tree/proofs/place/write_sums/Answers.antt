@@ -7,7 +7,7 @@ use Rattle.pack_model.proofs.ItemFacts.{members_within, small_items}
 use Rattle.class_frame.specs.declared.sums.Sums.{Sums}
 use Rattle.class_frame.specs.Sums.{sums_of}
 use Rattle.grouping_tree.proofs.Steps.{range_at}
-use Rattle.grouping_tree.proofs.partial.write_sums.Goals as goal
+use Rattle.grouping_tree.proofs.place.write_sums.Goals as goal
 
 pub of-requires-clause-small : goal.of-requires-clause-small
 of-requires-clause-small c =

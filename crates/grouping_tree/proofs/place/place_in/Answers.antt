@@ -2,7 +2,7 @@ use Rattle.std.proofs.Common.{count_by, nat_eq, nat_lt, take, drop, sym, ap, ◌
 use Rattle.pack_model.specs.declared.item.Item.{Item}
 use Rattle.grouping_tree.specs.Grouped.{items_in}
 use Rattle.grouping_tree.proofs.Senders.{problem_rises, slice-is, slice_within}
-use Rattle.grouping_tree.proofs.partial.place_in.Goals as goal
+use Rattle.grouping_tree.proofs.place.place_in.Goals as goal
 
 pub returns-in-Some-clause-slice : goal.returns-in-Some-clause-slice
 returns-in-Some-clause-slice c =

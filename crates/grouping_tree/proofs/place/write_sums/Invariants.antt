@@ -2,7 +2,7 @@ use Rattle.std.proofs.Common.{ℕ, ◌≡◌, ◌<◌, [], ◌∷◌, get_or, le
 use Rattle.pack_model.specs.declared.item.Item.{Item}
 use Rattle.class_frame.specs.declared.sums.Sums.{Sums}
 use Rattle.class_frame.specs.Sums.{AreSums}
-use Rattle.grouping_tree.proofs.partial.write_sums.Given as goal
+use Rattle.grouping_tree.proofs.place.write_sums.Given as goal
 
 -- the sums of the items so far are written
 abbrev pub invariant-loop-number : goal.invariant-loop-number
