@@ -32,8 +32,8 @@ use Rattle.bus_run.specs.declared.run.BusFrame.{BusFrame}
 use Rattle.bus_run.specs.Frames.{AreBusFrames, HaveWorstTicks, bus_frame_at, none_bus_frame, times_of}
 use Rattle.bus_run.specs.Late.{IsByNumber, IsShownAt}
 use Rattle.bus_run.proofs.BreakLaws.{none_late}
+use Rattle.bandwidth_bound.specs.Timing.{TimingStands}
 use Rattle.bandwidth_bound.specs.Bus.{NeverLate, ascending_identifiers, bus_frame_of, bus_frames_of, items_of_frame}
-use Rattle.cert_check.specs.Timing.{ClassesShown}
 
 -- numbers in a row ascend
 range_ascends : (n : ℕ) → AllPairs (λ earlier later. earlier < later) (range_with_len 0 n)
@@ -181,7 +181,7 @@ module _ (problem : Parts) (rows : List MatrixRow) (stands : IsProblem problem)
 
   -- where the lines show the classes, each frame is shown by its number
   shown_at : (lines : List FrameLine)
-      → ClassesShown problem (grouping_of problem rows) (order_of problem rows) lines
+      → TimingStands problem rows lines
       → (place : ℕ) → place < length (bus_frames_of problem rows)
       → IsShownAt problem.network (bus_frames_of problem rows) numbers place
   shown_at lines shown place inside =
@@ -204,7 +204,7 @@ module _ (problem : Parts) (rows : List MatrixRow) (stands : IsProblem problem)
 
   -- and no release is late
   pub shown_never_late : (lines : List FrameLine)
-      → ClassesShown problem (grouping_of problem rows) (order_of problem rows) lines → NeverLate problem rows
+      → TimingStands problem rows lines → NeverLate problem rows
   shown_never_late lines shown run runs release late =
       let by_number : (place : ℕ) → place < length (bus_frames_of problem rows)
       → IsByNumber (length (bus_frames_of problem rows)) numbers place = λ place inside. record {

@@ -1,5 +1,5 @@
 -- What follows from what is found of a certificate with a placed matrix.
-use Rattle.std.proofs.Common.{◌≡◌, ◌*◌, ◌^◌, ◌<◌, ℕ, false, List, arith, Result, Ok, Err}
+use Rattle.std.proofs.Common.{◌≡◌, ◌*◌, ◌^◌, ◌<◌, ℕ, false, List, arith, Result, Ok, Err, Option, Some, None}
 use Rattle.std.specs.Prelude.{OnOk}
 use Rattle.pack_model.specs.Problem.{Parts, IsProblem, IsSorted}
 use Rattle.pack_model.proofs.Laws.{tests}
@@ -14,7 +14,6 @@ use Rattle.cert_text.specs.Parts.{CertParts}
 use Rattle.bandwidth_bound.specs.Covering.{TreesShow}
 use Rattle.bandwidth_bound.specs.Follows.{Holds}
 use Rattle.bandwidth_bound.specs.Rule.{RuleHolds}
-use Rattle.bandwidth_bound.specs.Timing.{TimingStands}
 use Rattle.bandwidth_bound.specs.declared.verdict.Verdict.{Verdict}
 use Rattle.bandwidth_bound.proofs.Final.{all_items, failing_is_final}
 use Rattle.bandwidth_bound.proofs.Loads.{loads_fit}
@@ -22,8 +21,11 @@ use Rattle.bandwidth_bound.proofs.PriceBound.{bound_is_below}
 use Rattle.bandwidth_bound.proofs.Shown.{shown_is_solvable}
 use Rattle.bandwidth_bound.proofs.Standing.{trees_hold}
 use Rattle.cert_check.specs.declared.fault.CheckFault.{CheckFault}
+use Rattle.cert_check.specs.declared.placing.Placing.{Placing}
 use Rattle.cert_check.specs.Accept.{IsFound, judged_of}
 use Rattle.cert_check.specs.Kinds.{is_to_be_placed}
+use Rattle.cert_check.specs.Taken.{IsPlaced, load_in}
+use Rattle.cert_check.specs.Trees.{HasRoom}
 use Rattle.cert_check.proofs.BusLaws.{shown_never_late}
 use Rattle.cert_check.proofs.KindLaws.{no_matrix, no_timing, timing_of}
 
@@ -58,10 +60,8 @@ module _ (problem : Parts) (rows : List MatrixRow) (cert : CertParts) (stands : 
         one_place = λ has. one_place;
         passes = λ has. (shown_is_solvable (judged_of problem rows cert) found.rule has legal named).0;
         never_late = λ has.
-            let timing : TimingStands problem rows cert.frames =
-            timing_of cert.kind problem rows cert.frames has found.rule.timing in
             shown_never_late problem rows stands sorted legal.grouping named cert.frames
-            (record { count = timing.count; each = timing.each });
+            (timing_of cert.kind problem rows cert.frames has found.rule.timing);
         solvable = λ has. (shown_is_solvable (judged_of problem rows cert) found.rule has legal named).1;
         best = shows.best;
         no_solution = shows.no_solution;
@@ -70,9 +70,16 @@ module _ (problem : Parts) (rows : List MatrixRow) (cert : CertParts) (stands : 
   holds_placed sorted one_place legal named (Err why) found = tt
 
 -- the load of a legal grouping has room for an eighth
-pub load_fits : (problem : Parts) → IsProblem problem → (labels : List ℕ) → IsLegal problem.items labels
+load_fits : (problem : Parts) → IsProblem problem → (labels : List ℕ) → IsLegal problem.items labels
     → 8 * load_of problem problem.items labels < 2 ^ 128
 load_fits problem stands labels legal =
     loads_fit problem stands problem.items (all_items problem) labels
     (legal-partial problem.items labels legal)
     (omega (arith, legal.grouping.each, (tests problem stands).few_items))
+
+-- and so has that of a placed matrix
+pub has_room : (problem : Parts) (rows : List MatrixRow) (placing : Option Placing) → IsProblem problem
+    → IsPlaced problem rows placing → HasRoom (load_in placing)
+has_room problem rows None stands is = tt
+has_room problem rows (Some placing) stands is =
+    omega (arith, load_fits problem stands (grouping_of problem rows) is.legal, is.load)

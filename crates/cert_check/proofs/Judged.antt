@@ -1,8 +1,8 @@
 -- What a walk that took a whole certificate finds of it.
-use Rattle.std.proofs.Common.{◌≡◌, ◌*◌, ◌^◌, ◌<◌, ◌-◌, ℕ, min, Bool, true, false, List, [], ◌∷◌, length, map, Option, Some, None, IsTrue, Ok, Err, Result, refl, sym, ap, subst, ◌∙◌, arith, true≢false, inl, inr, ◌⊎◌, eqb-true}
+use Rattle.std.proofs.Common.{◌≡◌, ◌^◌, ◌-◌, ℕ, min, Bool, true, false, List, [], ◌∷◌, length, map, Option, Some, None, IsTrue, Ok, Err, Result, refl, sym, ap, subst, ◌∙◌, arith, true≢false, inl, inr, eqb-true}
 use Rattle.std.specs.Prelude.{◌↔◌, ◌||◌, ◌&&◌, ◌==◌, not, unwrap_or, OnOk, IsSome}
-use Rattle.std.proofs.lemmas.Bool.{and_parts, eq-eqb, false≢true}
-use Rattle.pack_model.specs.Problem.{Parts, IsProblem}
+use Rattle.std.proofs.lemmas.Bool.{eq-eqb, false≢true}
+use Rattle.pack_model.specs.Problem.{Parts}
 use Rattle.class_frame.specs.Classes.{frames_of_classes, load_of}
 use Rattle.matrix_rows.specs.declared.matrix.MatrixRow.{MatrixRow}
 use Rattle.matrix_text.specs.Frames.{grouping_of, order_of}
@@ -24,20 +24,19 @@ use Rattle.cert_check.specs.declared.cert_walk.CertWalk.{CertWalk}
 use Rattle.cert_check.specs.declared.fault.CheckFault.{CheckFault}
 use Rattle.cert_check.specs.declared.fault.CheckFault.TheVariants as fault
 use Rattle.cert_check.specs.declared.placing.Placing.{Placing}
-use Rattle.cert_check.specs.declared.walk.Walk.{Walk}
 use Rattle.cert_check.specs.Accept.{IsFound, judged_of}
 use Rattle.cert_check.specs.Kinds.{has_row, is_kind_placed, is_to_be_placed}
 use Rattle.cert_check.specs.Nodes.{lowered}
-use Rattle.cert_check.specs.Said.{Said, cert_said, lemmas_said, lines_said, main_said, may_leave_of}
-use Rattle.cert_check.specs.Taken.{AllStandSaid, IsClosed, IsInTree, IsLate, IsOpen, IsPlaced, IsPlacing, IsWhole, ShowFirst, Stores, falls, load_in}
+use Rattle.cert_check.specs.Said.{Said, lemmas_said, lines_said, main_said, may_leave_of, with_end}
+use Rattle.cert_check.specs.Taken.{AllStandSaid, IsClosed, IsLate, IsOpen, IsPlaced, IsPlacing, IsWhole, ShowFirst, Stores, falls, load_in}
 use Rattle.cert_check.specs.Trees.{IsAnswer, IsVerdict, TreeOfBest, least_left, verdict_of}
-use Rattle.cert_check.specs.Walk.{way_of}
+use Rattle.cert_check.specs.Walk.{start, way_of}
 use Rattle.cert_check.proofs.Found.{holds_placed, holds_without}
-use Rattle.cert_check.proofs.KindLaws.{best_is, found_by_trees, has_rows, lines_without, matrix_from, no_timing, rows_without, timing_from, timing_to, timing_without}
+use Rattle.cert_check.proofs.KindLaws.{best_is, found_by_trees, has_rows, lines_without, no_timing, rows_without, timing_from, timing_to, timing_without}
 use Rattle.cert_check.proofs.SaidTrees.{kind_kept, lines_kept, stand_trees, trees_stand, values_are}
 use Rattle.cert_check.proofs.StoreLaws.{none_falls, some_falls, tree_stands}
 use Rattle.cert_check.proofs.TreeLaws.{none_open, some_open}
-use Rattle.cert_check.proofs.Walks.{tree_least}
+use Rattle.cert_check.proofs.Walks.{takes_tree}
 
 -- ---- the matrix
 
@@ -137,7 +136,7 @@ module _ (problem : Parts) (rows : List MatrixRow) (walk : CertWalk) (s : Said)
       ↔ TimingOfKind s.kind problem rows s.lines
   timing_some placing is late other =
       let to : is_to_be_placed s.kind rows ≡ true =
-      with_placing s.kind problem rows (has_rows problem rows stores.stands is.placed) matrix in
+      with_placing s.kind problem rows (has_rows problem rows stores.knows.stands is.placed) matrix in
       and_then (by walk.late late)
       (timing_from s.kind problem rows s.lines to other, timing_to s.kind problem rows s.lines to other)
     where
@@ -173,6 +172,19 @@ module _ (problem : Parts) (rows : List MatrixRow) (walk : CertWalk) (s : Said)
 
 -- ---- the trees
 
+-- what each kind is answered
+abbrev pub IsOfKind : Kind → CertWalk → Option ℕ → Result Verdict CheckFault → Type 0
+IsOfKind KindPlaced walk load answer = answer ≡ Ok verdict.Placed
+IsOfKind KindTimed walk load answer = answer ≡ Ok (verdict.Timed (unwrap_or load 0))
+IsOfKind KindBetween walk load answer = IsOpen walk load answer
+IsOfKind KindBest walk load answer = IsClosed walk (verdict.Best (unwrap_or load 0)) answer
+IsOfKind KindNoSolution walk load answer = IsClosed walk verdict.NoSolution answer
+
+-- the main tree, where there is one
+the_tree : (main : Option Plain) → IsSome main → (tree : Plain) × (main ≡ Some tree)
+the_tree None some = absurd (false≢true some)
+the_tree (Some tree) some = (tree, refl)
+
 module _ (problem : Parts) (rows : List MatrixRow) (walk : CertWalk) (cert : CertParts)
     (whole : IsWhole problem rows walk cert) where
   -- the load of the matrix
@@ -181,14 +193,17 @@ module _ (problem : Parts) (rows : List MatrixRow) (walk : CertWalk) (cert : Cer
 
   -- what was said of the certificate
   abbrev said_with : Option Plain → Said
-  said_with tree =
-      record (main_said best (lemmas_said (lines_said problem cert) cert.lemmas) tree) { finished = true }
+  said_with main = with_end (main_said best main (lemmas_said cert.lemmas (lines_said problem cert)))
 
-  kind_of_main : (tree : Option Plain) → (said_with tree).kind ≡ cert.kind
+  kind_of_main : (main : Option Plain) → (said_with main).kind ≡ cert.kind
   kind_of_main None = kind_kept problem cert.lemmas (lines_said problem cert)
   kind_of_main (Some tree) = kind_kept problem cert.lemmas (lines_said problem cert)
 
-  pub kind_is : walk.kind ≡ cert.kind
+  lines_of_main : (main : Option Plain) → (said_with main).lines ≡ cert.frames
+  lines_of_main None = lines_kept problem cert.lemmas (lines_said problem cert)
+  lines_of_main (Some tree) = lines_kept problem cert.lemmas (lines_said problem cert)
+
+  kind_is : walk.kind ≡ cert.kind
   kind_is = whole.stores.kind ∙ kind_of_main cert.main_tree
 
   module _ (tree : Plain) (is : cert.main_tree ≡ Some tree) where
@@ -196,12 +211,12 @@ module _ (problem : Parts) (rows : List MatrixRow) (walk : CertWalk) (cert : Cer
     stored : Stores problem rows walk (said_with (Some tree))
     stored = subst (λ t. Stores problem rows walk (said_with t)) is whole.stores
 
-    pub trees_denied : falls walk ≡ true → ¬ TreesStand problem best (may_leave_of cert.kind) cert
+    trees_denied : falls walk ≡ true → ¬ TreesStand problem best (may_leave_of cert.kind) cert
     trees_denied fell stands =
         some_falls problem rows walk (said_with (Some tree)) stored fell
         (stand_trees problem cert best tree is stands)
 
-    pub trees_shown : falls walk ≡ false
+    trees_shown : falls walk ≡ false
         → TreesStand problem best (may_leave_of cert.kind) cert × (walk.walk.least ≡ least_left problem cert)
     trees_shown stays =
         let stay = none_falls walk stays in
@@ -211,7 +226,7 @@ module _ (problem : Parts) (rows : List MatrixRow) (walk : CertWalk) (cert : Cer
         let stand : TreesStand problem best (may_leave_of cert.kind) cert =
         trees_stand problem cert best tree is all in (
           stand,
-          tree_least _ tree (way_of problem walk.walk) there.takes stay.1
+          (takes_tree _ [] [] start (way_of problem walk.walk) tree refl refl there.takes).least stay.1
               ∙ ap (λ vs. lowered None (map (lower8_of problem vs problem.items) (open_places problem.items [] tree)))
               (values_are problem cert best tree stand.lemmas)
               ∙ ap (λ t. lowered None (map (lower8_of problem (values_of problem cert.lemmas) problem.items)
@@ -219,125 +234,74 @@ module _ (problem : Parts) (rows : List MatrixRow) (walk : CertWalk) (cert : Cer
         )
 
     -- the kinds without open leaves
-    pub closed_verdict : (shown : Verdict) (answer : Result Verdict CheckFault) → IsClosed walk shown answer
-        → IsVerdict (TreesStand problem best (may_leave_of cert.kind) cert) shown answer
-    closed_verdict shown (Ok v) closed = ((trees_shown closed.0).0, closed.1)
-    closed_verdict shown (Err fault.RejectedMatrix) closed = closed
-    closed_verdict shown (Err fault.RejectedTiming) closed = closed
-    closed_verdict shown (Err fault.RejectedTree) closed = trees_denied closed
-    closed_verdict shown (Err fault.Memory) closed = absurd closed
+    closed_verdict : may_leave_of cert.kind ≡ false → (shown : Verdict) (answer : Result Verdict CheckFault)
+        → IsClosed walk shown answer → IsVerdict (TreesStand problem best false cert) shown answer
+    closed_verdict leave shown answer closed =
+        subst (λ b. IsVerdict (TreesStand problem best b cert) shown answer) leave (by answer closed)
+      where
+        by : (answer : Result Verdict CheckFault) → IsClosed walk shown answer
+            → IsVerdict (TreesStand problem best (may_leave_of cert.kind) cert) shown answer
+        by (Ok v) closed = ((trees_shown closed.0).0, closed.1)
+        by (Err fault.RejectedMatrix) closed = closed
+        by (Err fault.RejectedTiming) closed = closed
+        by (Err fault.RejectedTree) closed = trees_denied closed
+        by (Err fault.Memory) closed = absurd closed
 
     -- the kind `open`
-    pub open_verdict : may_leave_of cert.kind ≡ true → (answer : Result Verdict CheckFault)
+    open_verdict : may_leave_of cert.kind ≡ true → (answer : Result Verdict CheckFault)
         → IsOpen walk best answer
         → IsVerdict (TreeOfBest KindBetween problem best cert) (verdict_of KindBetween problem best cert) answer
-    open_verdict leave answer found = by answer found
-      where
-        walked : falls walk ≡ false
-            → TreesStand problem best true cert × (walk.walk.least ≡ least_left problem cert)
-        walked stays =
-            let shown = trees_shown stays in
-            (subst (λ b. TreesStand problem best b cert) leave shown.0, shown.1)
+    open_verdict leave (Ok v) found =
+        let trees = trees_shown found.0 in
+        let shown = some_open problem best cert found.1.0
+        (subst (λ b. TreesStand problem best b cert) leave trees.0) (sym trees.1 ∙ found.1.1) in
+        (shown.0, found.1.2 ∙ shown.1)
+    open_verdict leave (Err fault.RejectedMatrix) found = found
+    open_verdict leave (Err fault.RejectedTiming) found = found
+    open_verdict leave (Err fault.RejectedTree) (inl fell) = λ holds.
+        trees_denied fell (subst (λ b. TreesStand problem best b cert) (sym leave) holds.0)
+    open_verdict leave (Err fault.RejectedTree) (inr none) =
+        none_open problem best cert (sym (trees_shown none.0).1 ∙ none.1)
+    open_verdict leave (Err fault.Memory) found = absurd found
 
-        denied : falls walk ≡ true → ¬ TreesStand problem best true cert
-        denied fell stands = trees_denied fell (subst (λ b. TreesStand problem best b cert) (sym leave) stands)
+  -- the main tree of a kind that has one
+  tree_of : (kind : Kind) → cert.kind ≡ kind → HasParts kind cert.frames cert.lemmas cert.main_tree
+  tree_of kind is = subst (λ k. HasParts k cert.frames cert.lemmas cert.main_tree) is whole.parts
 
-        by : (answer : Result Verdict CheckFault) → IsOpen walk best answer
-            → IsVerdict (TreeOfBest KindBetween problem best cert) (verdict_of KindBetween problem best cert) answer
-        by (Ok v) found =
-            let shown = some_open problem best cert walk.walk.least found.1.0 _ (walked found.0) found.1.1 refl in
-            (shown.0, found.1.2 ∙ shown.1)
-        by (Err fault.RejectedMatrix) found = found
-        by (Err fault.RejectedTiming) found = found
-        by (Err fault.RejectedTree) (inl fell) = λ holds. denied fell holds.0
-        by (Err fault.RejectedTree) (inr none) = none_open problem best cert walk.walk.least (walked none.0) none.1
-        by (Err fault.Memory) found = absurd found
-
--- what each kind is answered
-abbrev pub IsOfKind : Kind → CertWalk → Option ℕ → Result Verdict CheckFault → Type 0
-IsOfKind KindPlaced walk load answer = answer ≡ Ok verdict.Placed
-IsOfKind KindTimed walk load answer = answer ≡ Ok (verdict.Timed (unwrap_or load 0))
-IsOfKind KindBetween walk load answer = IsOpen walk load answer
-IsOfKind KindBest walk load answer = IsClosed walk (verdict.Best (unwrap_or load 0)) answer
-IsOfKind KindNoSolution walk load answer = IsClosed walk verdict.NoSolution answer
-
-module _ (problem : Parts) (rows : List MatrixRow) (walk : CertWalk) (cert : CertParts)
-    (whole : IsWhole problem rows walk cert) where
-  -- it is that of the trees
-  pub answer_is : (kind : Kind) → cert.kind ≡ kind → (answer : Result Verdict CheckFault)
-      → IsOfKind kind walk (load_in walk.placing) answer
-      → IsVerdict (TreeOfBest kind problem (load_in walk.placing) cert)
-      (verdict_of kind problem (load_in walk.placing) cert) answer
-  answer_is KindPlaced is answer found =
-      subst (IsVerdict _ verdict.Placed) (sym found) (tt, refl)
+  -- what is answered is that of the trees
+  answer_is : (kind : Kind) → cert.kind ≡ kind → (answer : Result Verdict CheckFault)
+      → IsOfKind kind walk best answer
+      → IsVerdict (TreeOfBest kind problem best cert) (verdict_of kind problem best cert) answer
+  answer_is KindPlaced is answer found = subst (IsVerdict _ verdict.Placed) (sym found) (tt, refl)
   answer_is KindTimed is answer found =
-      subst (IsVerdict _ (verdict.Timed (unwrap_or (load_in walk.placing) 0))) (sym found) (tt, refl)
-  answer_is KindBetween is answer found = by cert.main_tree refl has
-    where
-      has : IsSome cert.main_tree
-      has = subst (λ k. HasParts k cert.frames cert.lemmas cert.main_tree) is whole.parts
-
-      by : (tree : Option Plain) → cert.main_tree ≡ tree → IsSome tree
-          → IsVerdict (TreeOfBest KindBetween problem (load_in walk.placing) cert)
-          (verdict_of KindBetween problem (load_in walk.placing) cert) answer
-      by None e some = absurd (false≢true some)
-      by (Some tree) e some =
-          open_verdict problem rows walk cert whole tree e (ap may_leave_of is) answer found
-  answer_is KindBest is answer found = by cert.main_tree refl has
-    where
-      has : IsSome cert.main_tree
-      has = subst (λ k. HasParts k cert.frames cert.lemmas cert.main_tree) is whole.parts
-
-      by : (tree : Option Plain) → cert.main_tree ≡ tree → IsSome tree
-          → IsVerdict (TreesStand problem (load_in walk.placing) false cert)
-          (verdict.Best (unwrap_or (load_in walk.placing) 0)) answer
-      by None e some = absurd (false≢true some)
-      by (Some tree) e some =
-          subst (λ b. IsVerdict (TreesStand problem (load_in walk.placing) b cert)
-          (verdict.Best (unwrap_or (load_in walk.placing) 0)) answer) (ap may_leave_of is)
-          (closed_verdict problem rows walk cert whole tree e
-          (verdict.Best (unwrap_or (load_in walk.placing) 0)) answer found)
-  answer_is KindNoSolution is answer found = by cert.main_tree refl has
-    where
-      has : IsSome cert.main_tree
-      has = subst (λ k. HasParts k cert.frames cert.lemmas cert.main_tree) is whole.parts
-
-      by : (tree : Option Plain) → cert.main_tree ≡ tree → IsSome tree
-          → IsVerdict (TreesStand problem (load_in walk.placing) false cert) verdict.NoSolution answer
-      by None e some = absurd (false≢true some)
-      by (Some tree) e some =
-          subst (λ b. IsVerdict (TreesStand problem (load_in walk.placing) b cert) verdict.NoSolution answer)
-          (ap may_leave_of is) (closed_verdict problem rows walk cert whole tree e verdict.NoSolution answer found)
+      subst (IsVerdict _ (verdict.Timed (unwrap_or best 0))) (sym found) (tt, refl)
+  answer_is KindBetween is answer found =
+      let tree = the_tree cert.main_tree (tree_of KindBetween is) in
+      open_verdict tree.0 tree.1 (ap may_leave_of is) answer found
+  answer_is KindBest is answer found =
+      let tree = the_tree cert.main_tree (tree_of KindBest is) in
+      closed_verdict tree.0 tree.1 (ap may_leave_of is) (verdict.Best (unwrap_or best 0)) answer found
+  answer_is KindNoSolution is answer found =
+      let tree = the_tree cert.main_tree (tree_of KindNoSolution is) in
+      closed_verdict tree.0 tree.1 (ap may_leave_of is) verdict.NoSolution answer found
 
   -- by the kind that is stored
   pub answer_by : (kind : Kind) → walk.kind ≡ kind → (answer : Result Verdict CheckFault)
-      → IsOfKind kind walk (load_in walk.placing) answer
-      → IsAnswer problem (load_in walk.placing) cert answer
+      → IsOfKind kind walk best answer → IsAnswer problem best cert answer
   answer_by kind is answer found =
-      let same : cert.kind ≡ kind = sym (kind_is problem rows walk cert whole) ∙ is in
-      subst (λ k. IsVerdict (TreeOfBest k problem (load_in walk.placing) cert)
-      (verdict_of k problem (load_in walk.placing) cert) answer) (sym same)
+      let same : cert.kind ≡ kind = sym kind_is ∙ is in
+      subst (λ k. IsVerdict (TreeOfBest k problem best cert) (verdict_of k problem best cert) answer) (sym same)
       (answer_is kind same answer found)
 
   -- ---- what is tested
-
-  -- of what was said
-  abbrev all_said : Said
-  all_said = cert_said problem (load_in walk.placing) cert
-
-  kind_said : all_said.kind ≡ cert.kind
-  kind_said = sym whole.stores.kind ∙ kind_is problem rows walk cert whole
-
-  lines_of_main : (tree : Option Plain) → (said_with problem rows walk cert whole tree).lines ≡ cert.frames
-  lines_of_main None = lines_kept problem cert.lemmas (lines_said problem cert)
-  lines_of_main (Some tree) = lines_kept problem cert.lemmas (lines_said problem cert)
 
   -- the matrix
   pub matrix_asked : (stands : Bool)
       → ((s : Said) → Stores problem rows walk s → IsTrue stands ↔ MatrixOfKind s.kind problem rows)
       → IsTrue stands ↔ MatrixOfKind cert.kind problem rows
   matrix_asked stands asks =
-      subst (λ k. IsTrue stands ↔ MatrixOfKind k problem rows) kind_said (asks all_said whole.stores)
+      subst (λ k. IsTrue stands ↔ MatrixOfKind k problem rows) (kind_of_main cert.main_tree)
+      (asks (said_with cert.main_tree) whole.stores)
 
   -- the times
   pub timing_asked : (stands : Bool)
@@ -346,9 +310,10 @@ module _ (problem : Parts) (rows : List MatrixRow) (walk : CertWalk) (cert : Cer
       → MatrixOfKind cert.kind problem rows → IsTrue stands ↔ TimingOfKind cert.kind problem rows cert.frames
   timing_asked stands asks matrix =
       subst (λ ls. IsTrue stands ↔ TimingOfKind cert.kind problem rows ls) (lines_of_main cert.main_tree)
-      (subst (λ k. IsTrue stands ↔ TimingOfKind k problem rows all_said.lines) kind_said
-      (asks all_said whole.stores
-      (subst (λ k. MatrixOfKind k problem rows) (sym kind_said) matrix)))
+      (subst (λ k. IsTrue stands ↔ TimingOfKind k problem rows (said_with cert.main_tree).lines)
+      (kind_of_main cert.main_tree)
+      (asks (said_with cert.main_tree) whole.stores
+      (subst (λ k. MatrixOfKind k problem rows) (sym (kind_of_main cert.main_tree)) matrix)))
 
   -- ---- all parts
 
@@ -362,7 +327,7 @@ module _ (problem : Parts) (rows : List MatrixRow) (walk : CertWalk) (cert : Cer
           → best_of problem rs ≡ None
       none_of rs is m = ap (best_of problem) (rows_without cert.kind problem rs is m)
   best_same (Some placing) is matrix =
-      best_is problem rows placing.load (has_rows problem rows whole.stores.stands is.placed) is.load
+      best_is problem rows placing.load (has_rows problem rows whole.stores.knows.stands is.placed) is.load
 
   load_same : (placing : Option Placing) → IsPlaced problem rows placing → MatrixOfKind cert.kind problem rows
       → HasTiming cert.kind rows
@@ -376,20 +341,20 @@ module _ (problem : Parts) (rows : List MatrixRow) (walk : CertWalk) (cert : Cer
       → IsFound problem rows cert answer
   found_whole matrix timing answer judged =
       found_by_trees problem rows cert (load_in walk.placing) matrix timing
-      (best_same walk.placing whole.stores.placed matrix) (load_same walk.placing whole.stores.placed matrix)
+      (best_same walk.placing whole.stores.knows.placed matrix) (load_same walk.placing whole.stores.knows.placed matrix)
       answer judged
 
   -- what follows
   pub holds_whole : (answer : Result Verdict CheckFault) → IsFound problem rows cert answer
       → OnOk answer (Holds (judged_of problem rows cert))
-  holds_whole answer found = by walk.placing whole.stores.placed answer found
+  holds_whole answer found = by walk.placing whole.stores.knows.placed answer found
     where
       by : (placing : Option Placing) → IsPlaced problem rows placing → (answer : Result Verdict CheckFault)
           → IsFound problem rows cert answer → OnOk answer (Holds (judged_of problem rows cert))
       by None other (Ok shown) found =
-          holds_without problem rows cert whole.stores.stands
+          holds_without problem rows cert whole.stores.knows.stands
           (without_placing cert.kind problem rows other found.rule.matrix) (Ok shown) found
       by None other (Err why) found = tt
       by (Some placing) is answer found =
-          holds_placed problem rows cert whole.stores.stands whole.stores.sorted is.one_place is.legal is.named
+          holds_placed problem rows cert whole.stores.knows.stands whole.stores.knows.sorted is.one_place is.legal is.named
           answer found

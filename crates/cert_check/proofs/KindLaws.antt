@@ -1,6 +1,6 @@
 -- The parts of the acceptance rule by the kind of a certificate, and what is found of a certificate by its
 -- kind.
-use Rattle.std.proofs.Common.{◌≡◌, ◌<◌, ℕ, true, false, List, [], ◌∷◌, length, Option, None, Some, true≢false, Ok, Err, Result, refl, sym, ap, subst, arith, All, count_by}
+use Rattle.std.proofs.Common.{◌≡◌, ◌<◌, ℕ, true, false, List, [], ◌∷◌, length, Option, Some, true≢false, Ok, Err, Result, refl, sym, ap, subst, arith, All, count_by}
 use Rattle.std.proofs.lemmas.List.Elements.{All-head}
 use Rattle.std.specs.Prelude.{unwrap_or}
 use Rattle.pack_model.specs.declared.signal.Signal.{Signal}
@@ -8,7 +8,7 @@ use Rattle.pack_model.specs.Problem.{Parts, IsProblem}
 use Rattle.pack_model.proofs.Laws.{tests}
 use Rattle.class_frame.specs.Classes.{load_of}
 use Rattle.matrix_rows.specs.declared.matrix.MatrixRow.{MatrixRow}
-use Rattle.matrix_text.specs.Frames.{grouping_of, order_of}
+use Rattle.matrix_text.specs.Frames.{grouping_of}
 use Rattle.matrix_text.specs.Items.{is_named}
 use Rattle.matrix_text.specs.Placed.{Placed}
 use Rattle.cert_text.specs.declared.parts.Kind.{Kind}
@@ -20,24 +20,13 @@ use Rattle.bandwidth_bound.specs.Lemmas.{values_of}
 use Rattle.bandwidth_bound.specs.Rule.{IsOfKind, MatrixOfKind, TimingOfKind, TreeOfKind, best_of, lower_of}
 use Rattle.bandwidth_bound.specs.Timing.{TimingStands}
 use Rattle.bandwidth_bound.specs.declared.verdict.Verdict.{Verdict}
-use Rattle.cert_check.specs.Accept.{IsFault, IsFound, judged_of}
-use Rattle.cert_check.specs.Kinds.{FailsWithoutRows, is_kind_placed, is_to_be_placed}
-use Rattle.cert_check.specs.Timing.{IsTimed}
+use Rattle.cert_check.specs.Accept.{IsFound, judged_of}
+use Rattle.cert_check.specs.Kinds.{is_kind_placed, is_to_be_placed}
 use Rattle.cert_check.specs.Trees.{IsAnswer, TreeOfBest, verdict_of}
 use Rattle.cert_check.specs.declared.fault.CheckFault.{CheckFault}
 use Rattle.cert_check.specs.declared.fault.CheckFault.TheVariants as fault
 
--- the matrix part of a kind whose matrix is to be placed
-pub matrix_from : (kind : Kind) (problem : Parts) (rows : List MatrixRow) → is_to_be_placed kind rows ≡ true
-    → Placed problem rows → MatrixOfKind kind problem rows
-matrix_from KindPlaced problem rows is placed = placed
-matrix_from KindTimed problem rows is placed = placed
-matrix_from KindBetween problem [] is placed = absurd (true≢false (sym is))
-matrix_from KindBetween problem (row ∷ rows) is placed = placed
-matrix_from KindBest problem rows is placed = placed
-matrix_from KindNoSolution problem rows is placed = absurd (true≢false (sym is))
-
--- the timing part of such a kind other than `placed`
+-- the timing part of a kind other than `placed` whose matrix is to be placed
 pub timing_from : (kind : Kind) (problem : Parts) (rows : List MatrixRow) (lines : List FrameLine)
     → is_to_be_placed kind rows ≡ true → is_kind_placed kind ≡ false
     → TimingStands problem rows lines → TimingOfKind kind problem rows lines
@@ -126,15 +115,6 @@ no_timing KindBetween (row ∷ rows) is has = true≢false is
 no_timing KindBest rows is has = true≢false is
 no_timing KindNoSolution rows is has = has
 
--- nor are times of the kind `placed`
-pub placed_no_timing : (kind : Kind) (rows : List MatrixRow) → is_kind_placed kind ≡ true
-    → ¬ HasTiming kind rows
-placed_no_timing KindPlaced rows is has = has
-placed_no_timing KindTimed rows is has = true≢false (sym is)
-placed_no_timing KindBetween rows is has = true≢false (sym is)
-placed_no_timing KindBest rows is has = true≢false (sym is)
-placed_no_timing KindNoSolution rows is has = true≢false (sym is)
-
 -- the tree part, where the load of the matrix is that of its rows
 tree_of : (kind : Kind) (problem : Parts) (rows : List MatrixRow) (cert : CertParts)
     → TreeOfBest kind problem (best_of problem rows) cert → TreeOfKind kind problem rows cert
@@ -212,53 +192,3 @@ pub best_is : (problem : Parts) (rows : List MatrixRow) (load : ℕ) → ¬ (row
     → load ≡ load_of problem problem.items (grouping_of problem rows) → best_of problem rows ≡ Some load
 best_is problem [] load some is = absurd (some refl)
 best_is problem (row ∷ rows) load some is = ap Some (sym is)
-
--- a certificate whose matrix is to have no rows
-module _ (problem : Parts) (rows : List MatrixRow) (cert : CertParts)
-    (is : is_to_be_placed cert.kind rows ≡ false) where
-  pub found_without : FailsWithoutRows rows cert.frames None → (answer : Result Verdict CheckFault)
-      → IsAnswer problem None cert answer → IsFound problem rows cert answer
-  found_without none answer judged =
-      found_by_trees problem rows cert None (matrix_without cert.kind problem rows is none.0)
-      (timing_without cert.kind problem rows cert.frames is none.1) (ap (best_of problem) none.0)
-      (λ has. absurd (no_timing cert.kind rows is has)) answer judged
-
-  pub fault_without : (why : CheckFault) → FailsWithoutRows rows cert.frames (Some why)
-      → IsFault why (judged_of problem rows cert)
-  fault_without fault.RejectedMatrix fails = λ holds. fails (rows_without cert.kind problem rows is holds)
-  fault_without fault.RejectedTiming fails = (
-    matrix_without cert.kind problem rows is fails.0,
-    λ holds.
-        fails.1 (lines_without cert.kind problem rows cert.frames is holds),
-  )
-  fault_without fault.RejectedTree fails = absurd fails
-  fault_without fault.Memory fails = absurd fails
-
--- a certificate with a placed matrix, other than of the kind `placed`
-module _ (problem : Parts) (rows : List MatrixRow) (cert : CertParts)
-    (is : is_to_be_placed cert.kind rows ≡ true)
-    (other : is_kind_placed cert.kind ≡ false) (placed : Placed problem rows) where
-  -- the lines show that each frame passes
-  pub found_with_load : IsProblem problem → (load : ℕ)
-      → IsTimed problem (grouping_of problem rows) (order_of problem rows) cert.frames (Ok load)
-      → (answer : Result Verdict CheckFault) → IsAnswer problem (Some load) cert answer
-      → IsFound problem rows cert answer
-  found_with_load stands load timed answer judged =
-      found_by_trees problem rows cert (Some load) (matrix_from cert.kind problem rows is placed)
-      (timing_from cert.kind problem rows cert.frames is other
-      (record { count = timed.0.count; each = timed.0.each }))
-      (best_is problem rows load (has_rows problem rows stands placed) timed.1) (λ has. timed.1) answer judged
-
-  -- or they do not
-  pub fault_of_lines : (why : CheckFault)
-      → IsTimed problem (grouping_of problem rows) (order_of problem rows) cert.frames (Err why)
-      → IsFault why (judged_of problem rows cert)
-  fault_of_lines fault.RejectedMatrix timed = absurd timed
-  fault_of_lines fault.RejectedTiming timed = (
-    matrix_from cert.kind problem rows is placed,
-    λ holds.
-        let stands = timing_to cert.kind problem rows cert.frames is other holds in
-        timed (record { count = stands.count; each = stands.each }),
-  )
-  fault_of_lines fault.RejectedTree timed = absurd timed
-  fault_of_lines fault.Memory timed = tt

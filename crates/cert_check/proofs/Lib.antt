@@ -5,11 +5,11 @@ pub mod Found
 pub mod Judged
 pub mod KindLaws
 pub mod LemmaLaws
-pub mod Lines
 pub mod Nexts
 pub mod SaidLaws
 pub mod SaidTrees
 pub mod StoreLaws
 pub mod StoreStart
+pub mod SubtreeLaws
 pub mod TreeLaws
 pub mod Walks

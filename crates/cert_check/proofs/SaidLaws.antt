@@ -1,5 +1,5 @@
 -- The events of a certificate say it: its trees without marks, node by node.
-use Rattle.std.proofs.Common.{◌≡◌, ℕ, suc, List, [], ◌∷◌, ◌++◌, map, fold, Option, Some, None, refl, sym, ap, ◌∙◌, append_assoc, append-nil, true}
+use Rattle.std.proofs.Common.{◌≡◌, ℕ, suc, List, [], ◌∷◌, ◌++◌, map, fold, Option, Some, None, refl, sym, ap, ◌∙◌, append_assoc, append-nil}
 use Rattle.std.specs.List.{flat_map}
 use Rattle.std.specs.Option.{option_map}
 use Rattle.std.proofs.lemmas.List.Sums.{fold-append}
@@ -11,7 +11,7 @@ use Rattle.cert_text.specs.CertEvents.{cert_events, lemma_events, main_events, t
 use Rattle.cert_text.specs.Parts.{CertOf, LemmaOf, unmark_cert, unmark_lemma}
 use Rattle.cert_text.specs.Trees.{Marked, Markeds, count, m_bound, m_fail, m_inner, m_left, m_more, m_none, shard, unmark, unmark_all}
 use Rattle.cert_check.specs.Nodes.{Node, count_trees, inner_node, nodes_of, nodes_of_each}
-use Rattle.cert_check.specs.Said.{Said, and_said, cert_said, lemma_begun, lemma_said, lemmas_said, lines_said, main_said, main_begun, nothing_said, said_by, with_node, with_nodes}
+use Rattle.cert_check.specs.Said.{Said, and_said, cert_said, lemma_begun, lemma_said, lemmas_said, lines_said, main_said, main_begun, nothing_said, said_by, with_end, with_kind, with_line, with_lines, with_node, with_nodes}
 
 -- with these nodes of the tree
 abbrev to_nodes : Said → List Node → Said
@@ -56,15 +56,15 @@ module _ (best : Option ℕ) where
 
   -- those of frame lines say them
   said_lines : (lines : List FrameLine) (s : Said) (es : List Event)
-      → all s (map event.FrameOf lines ++ es) ≡ all (record s { lines = s.lines ++ lines }) es
+      → all s (map event.FrameOf lines ++ es) ≡ all (with_lines lines s) es
   said_lines [] s es = ap (λ ls. all (record s { lines = ls }) es) (sym (append-nil s.lines))
   said_lines (line ∷ lines) s es =
-      said_lines lines (record s { lines = s.lines ++ line ∷ [] }) es
+      said_lines lines (with_line line s) es
       ∙ ap (λ ls. all (record s { lines = ls }) es) (append_assoc s.lines (line ∷ []) lines)
 
   -- those of lemmas say these
   said_lemmas : (lemmas : List (LemmaOf Marked)) (s : Said) (es : List Event)
-      → all s (flat_map lemma_events lemmas ++ es) ≡ all (lemmas_said s (map unmark_lemma lemmas)) es
+      → all s (flat_map lemma_events lemmas ++ es) ≡ all (lemmas_said (map unmark_lemma lemmas) s) es
   said_lemmas [] s es = refl
   said_lemmas (lemma ∷ lemmas) s es =
       ap (all (lemma_begun lemma.sender lemma.value s))
@@ -75,7 +75,7 @@ module _ (best : Option ℕ) where
   -- those of the main tree and the end
   said_main : (tree : Option Marked) (s : Said)
       → all s (main_events tree ++ event.Finish ∷ [])
-      ≡ record (main_said best s (option_map unmark tree)) { finished = true }
+      ≡ with_end (main_said best (option_map unmark tree) s)
   said_main None s = refl
   said_main (Some tree) s = said_tree tree (main_begun best s) (event.Finish ∷ [])
 
@@ -85,10 +85,10 @@ pub said_cert : (problem : Parts) (best : Option ℕ) (c : CertOf Marked)
 said_cert problem best c =
     let end = main_events c.main_tree ++ event.Finish ∷ [] in
     let s : Said = lines_said problem (unmark_cert c) in
-    said_lines best c.frames (record (nothing_said problem) { kind = c.kind })
+    said_lines best c.frames (with_kind c.kind (nothing_said problem))
     (flat_map lemma_events c.lemmas ++ end)
     ∙ said_lemmas best c.lemmas s end
-    ∙ said_main best c.main_tree (lemmas_said s (map unmark_lemma c.lemmas))
+    ∙ said_main best c.main_tree (lemmas_said (map unmark_lemma c.lemmas) s)
 
 -- one event more says what it does
 pub said_more : (problem : Parts) (best : Option ℕ) (es : List Event) (e : Event)

@@ -1,11 +1,10 @@
 -- What was said of the trees of a certificate stands exactly where they do.
 use Rattle.std.specs.Prelude.{⊤}
-use Rattle.std.proofs.Common.{◌≡◌, ℕ, zero, suc, ◌<◌, ◌≤◌, ◌+◌, ◌↔◌, List, [], ◌∷◌, ◌++◌, length, map, get_or, set, All, Option, Some, None, Bool, refl, sym, ap, subst, ◌∙◌, append_assoc, append-nil, arith}
+use Rattle.std.proofs.Common.{◌≡◌, ℕ, zero, suc, ◌<◌, ◌+◌, List, [], ◌∷◌, ◌++◌, length, map, get_or, set, All, Option, Some, None, refl, sym, ap, subst, ◌∙◌, append_assoc, append-nil, arith}
 use Rattle.std.specs.List.{AllByRecursion}
 use Rattle.std.specs.List.Sorted.{IsStrictlyIncreasing}
 use Rattle.std.proofs.lemmas.List.Elements.{All-from_recursion, All-nil, All-push, recursion_from_All}
 use Rattle.pack_model.specs.Problem.{Parts}
-use Rattle.cert_text.specs.declared.parts.FrameLine.{FrameLine}
 use Rattle.cert_text.specs.declared.parts.Kind.{Kind}
 use Rattle.cert_text.specs.Parts.{CertParts, LemmaOf}
 use Rattle.cert_text.specs.Trees.{Plain}
@@ -13,9 +12,8 @@ use Rattle.bandwidth_bound.specs.Goals.{lemma_goal, main_goal}
 use Rattle.bandwidth_bound.specs.Lemmas.{LemmaStands, LemmasStand, values_of}
 use Rattle.bandwidth_bound.specs.Rule.{MainStands, TreesStand}
 use Rattle.bandwidth_bound.specs.Trees.{TreeStands}
-use Rattle.cert_check.specs.declared.walk.Aim.{Aim}
 use Rattle.cert_check.specs.Nodes.{NodesStand, nodes_of}
-use Rattle.cert_check.specs.Said.{Said, lemma_said, lemmas_said, lines_said, main_aim, main_said, may_leave_of, nothing_said}
+use Rattle.cert_check.specs.Said.{Said, lemma_said, lemmas_said, lines_said, main_aim, main_said, may_leave_of}
 use Rattle.cert_check.specs.Taken.{AllStandSaid, ComesNext}
 use Rattle.cert_check.specs.Walk.{goal_of}
 use Rattle.cert_check.proofs.LemmaLaws.{values_more, values_none}
@@ -52,7 +50,7 @@ module _ (problem : Parts) where
   -- ---- what was said of lemmas
 
   -- where it stands, the lemmas stand, and what was said before
-  lemmas_follow : (lemmas : List (LemmaOf Plain)) (s : Said) → AllStandSaid problem (lemmas_said s lemmas)
+  lemmas_follow : (lemmas : List (LemmaOf Plain)) (s : Said) → AllStandSaid problem (lemmas_said lemmas s)
       → AllStandSaid problem s × LemmasFollow s.last lemmas
   lemmas_follow [] s all = (all, tt)
   lemmas_follow (lemma ∷ lemmas) s all =
@@ -67,7 +65,7 @@ module _ (problem : Parts) where
 
   -- and conversely
   lemmas_stand : (lemmas : List (LemmaOf Plain)) (s : Said) → AllStandSaid problem s
-      → LemmasFollow s.last lemmas → AllStandSaid problem (lemmas_said s lemmas)
+      → LemmasFollow s.last lemmas → AllStandSaid problem (lemmas_said lemmas s)
   lemmas_stand [] s all follow = all
   lemmas_stand (lemma ∷ lemmas) s all follow =
       lemmas_stand lemmas (lemma_said s lemma) (
@@ -80,11 +78,11 @@ module _ (problem : Parts) where
       follow.2
 
   -- the kind and the frame lines stay
-  pub kind_kept : (lemmas : List (LemmaOf Plain)) (s : Said) → (lemmas_said s lemmas).kind ≡ s.kind
+  pub kind_kept : (lemmas : List (LemmaOf Plain)) (s : Said) → (lemmas_said lemmas s).kind ≡ s.kind
   kind_kept [] s = refl
   kind_kept (lemma ∷ lemmas) s = kind_kept lemmas (lemma_said s lemma)
 
-  pub lines_kept : (lemmas : List (LemmaOf Plain)) (s : Said) → (lemmas_said s lemmas).lines ≡ s.lines
+  pub lines_kept : (lemmas : List (LemmaOf Plain)) (s : Said) → (lemmas_said lemmas s).lines ≡ s.lines
   lines_kept [] s = refl
   lines_kept (lemma ∷ lemmas) s = lines_kept lemmas (lemma_said s lemma)
 
@@ -104,7 +102,7 @@ module _ (problem : Parts) where
 
   values_said : (lemmas front : List (LemmaOf Plain)) (s : Said) → LemmasFollow s.last lemmas
       → Below s.last front → s.values ≡ values_of problem front
-      → (lemmas_said s lemmas).values ≡ values_of problem (front ++ lemmas)
+      → (lemmas_said lemmas s).values ≡ values_of problem (front ++ lemmas)
   values_said [] front s follow below same = same ∙ ap (values_of problem) (sym (append-nil front))
   values_said (lemma ∷ lemmas) front s follow below same =
       let next = next_after s.last lemma.sender follow.0 in
@@ -181,7 +179,7 @@ module _ (problem : Parts) where
   module _ (cert : CertParts) (best : Option ℕ) (tree : Plain) where
     -- what was said before the main tree
     abbrev before : Said
-    before = lemmas_said (lines_said problem cert) cert.lemmas
+    before = lemmas_said cert.lemmas (lines_said problem cert)
 
     -- nothing was said to stand
     nothing_stands : AllStandSaid problem (lines_said problem cert)
@@ -199,7 +197,7 @@ module _ (problem : Parts) where
     MainNodes values kind = NodesStand (goal_of problem values (main_aim kind best)) ([] ∷ []) (nodes_of tree)
 
     pub trees_stand : cert.main_tree ≡ Some tree
-        → AllStandSaid problem (main_said best before (Some tree))
+        → AllStandSaid problem (main_said best (Some tree) before)
         → TreesStand problem best (may_leave_of cert.kind) cert
     trees_stand is all =
         let r = lemmas_follow cert.lemmas (lines_said problem cert)
@@ -217,7 +215,7 @@ module _ (problem : Parts) where
 
     pub stand_trees : cert.main_tree ≡ Some tree
         → TreesStand problem best (may_leave_of cert.kind) cert
-        → AllStandSaid problem (main_said best before (Some tree))
+        → AllStandSaid problem (main_said best (Some tree) before)
     stand_trees is stands =
         let all : AllStandSaid problem before =
         lemmas_stand cert.lemmas (lines_said problem cert) nothing_stands (follow_none cert.lemmas stands.lemmas) in

@@ -1,92 +1,137 @@
 -- What a walk over events stores after one more.
-use Rattle.std.proofs.Common.{◌≡◌, ◌<◌, ◌≤◌, ◌+◌, ◌-◌, ◌^◌, ◌⊎◌, inl, inr, ℕ, min, Bool, true, false, List, [], ◌∷◌, ◌++◌, length, get_or, set, Option, Some, None, refl, sym, ap, subst, ◌∙◌, arith, true≢false, IsTrue, replicate}
-use Rattle.std.specs.Prelude.{◌↔◌, ◌||◌}
+use Rattle.std.proofs.Common.{◌≡◌, ◌<◌, ◌≤◌, ◌+◌, ◌-◌, ◌^◌, ◌⊎◌, inl, inr, ℕ, min, Bool, true, false, List, [], ◌∷◌, ◌++◌, length, get_or, Option, Some, None, refl, sym, ap, subst, ◌∙◌, append_assoc, arith, true≢false}
+use Rattle.std.specs.Prelude.{◌||◌, not}
 use Rattle.std.proofs.lemmas.Bool.{cases_lt}
 use Rattle.std.proofs.lemmas.List.{get_or_append_left, get_or_push, length_push}
-use Rattle.pack_model.specs.Problem.{Parts, IsProblem, IsSorted}
+use Rattle.pack_model.specs.Problem.{Parts}
 use Rattle.busy_period.specs.declared.timed.Timed.{Timed}
 use Rattle.response_test.specs.Frame.{IsShown}
 use Rattle.matrix_rows.specs.declared.matrix.MatrixRow.{MatrixRow}
-use Rattle.matrix_text.specs.Frames.{grouping_of}
 use Rattle.cert_text.specs.declared.parts.FrameLine.{FrameLine}
 use Rattle.cert_text.specs.declared.parts.Kind.{Kind}
-use Rattle.bandwidth_bound.specs.Trees.{Goal}
 use Rattle.cert_check.specs.declared.cert_walk.CertWalk.{CertWalk}
 use Rattle.cert_check.specs.declared.placing.Placing.{Placing}
 use Rattle.cert_check.specs.declared.walk.Aim.{Aim}
 use Rattle.cert_check.specs.declared.walk.Walk.{Walk}
-use Rattle.cert_check.specs.Nodes.{Node, NodesStand, Takes}
-use Rattle.cert_check.specs.Said.{Said, TreeSaid, lemma_aim, lemma_begun, tree_begun, with_line, with_node}
-use Rattle.cert_check.specs.Taken.{AllStandSaid, ComesNext, EachStandsSaid, IsInTree, IsLate, IsPlaced, IsPlacing, IsShowing, ShowFirst, ShowsAt, StandsSaid, Stores, goal_said, load_in}
-use Rattle.cert_check.specs.Trees.{HasRoom}
-use Rattle.cert_check.specs.Walk.{IsWalk, Keeps, TakesOne, goal_of, goal_in, start, values_in, values_used, way_of}
-use Rattle.cert_check.proofs.Found.{load_fits}
-use Rattle.cert_check.proofs.Walks.{stand_first, takes_append, takes_none}
+use Rattle.cert_check.specs.Nodes.{Node, Takes}
+use Rattle.cert_check.specs.Said.{Said, tree_begun, with_end, with_kind, with_line, with_node, with_nodes}
+use Rattle.cert_check.specs.Taken.{AllStandSaid, ComesNext, HasStored, IsInTree, IsLate, IsPlaced, IsPlacing, IsShowing, ShowFirst, ShowsAt, Stores, StoresMore, falls, goal_said}
+use Rattle.cert_check.specs.Walk.{IsWalk, Keeps, TakesOne, goal_of, start, values_in, way_of}
+use Rattle.cert_check.proofs.Walks.{stand_first, takes_append, takes_failed, takes_none}
+
+-- ---- step by step
+
+-- a walk that went on still stores something
+pub still : {problem : Parts} {before after : CertWalk} {more : Said → Said}
+    → StoresMore problem before after more → HasStored problem before → HasStored problem after
+still {more = more} step has = (has.0, more has.1, step.stores has.0 has.1 has.2)
+
+-- two steps are one
+pub stores_then : {problem : Parts} {before between after : CertWalk} {first second : Said → Said}
+    → StoresMore problem before between first → StoresMore problem between after second
+    → StoresMore problem before after (λ s. second (first s))
+stores_then {first = first} a b = record {
+  stores = λ rows s stores. b.stores rows (first s) (a.stores rows s stores);
+  placing = b.placing ∙ a.placing;
+}
+
+-- where the same was said
+pub stores_same : {problem : Parts} {before after : CertWalk} {more : Said → Said} (same : Said → Said)
+    → ((s : Said) → more s ≡ same s) → StoresMore problem before after more
+    → StoresMore problem before after same
+stores_same {problem = problem} {after = after} same is step = record {
+  stores = λ rows s stores. subst (Stores problem rows after) (is s) (step.stores rows s stores);
+  placing = step.placing;
+}
+
+-- nodes and further ones
+pub nodes_then : {problem : Parts} {before between after : CertWalk} (ns ms all : List Node) → ns ++ ms ≡ all
+    → StoresMore problem before between (with_nodes ns) → StoresMore problem between after (with_nodes ms)
+    → StoresMore problem before after (with_nodes all)
+nodes_then ns ms all is a b =
+    stores_same (with_nodes all)
+    (λ s i. record s {
+      tree = record s.tree { nodes = (append_assoc s.tree.nodes ns ms ∙ ap (λ xs. s.tree.nodes ++ xs) is) i };
+    })
+    (stores_then a b)
 
 -- ---- one more node
 
--- all that was said stood before it
-fewer_nodes : (problem : Parts) (node : Node) (s : Said) → AllStandSaid problem (with_node node s)
-    → AllStandSaid problem s
-fewer_nodes problem node s all = (
-  record {
-    next = all.0.next;
-    nodes = stand_first (goal_said problem s.tree) ([] ∷ []) s.tree.nodes (node ∷ []) all.0.nodes;
-  },
-  all.1,
-)
-
-module _ (problem : Parts) (rows : List MatrixRow) (walk : CertWalk) (node : Node) (s : Said)
-    (stores : Stores problem rows walk s) where
-  -- after a tree that doesn't stand
-  pub node_passed : walk.failed ≡ true → Stores problem rows walk (with_node node s)
-  node_passed failed = record {
-    stands = stores.stands;
-    sorted = stores.sorted;
-    some = stores.some;
-    placed = stores.placed;
+-- where something of the trees doesn't stand, any nodes change nothing
+pub nodes_passed : (problem : Parts) (walk : CertWalk) (nodes : List Node) → falls walk ≡ true
+    → StoresMore problem walk walk (with_nodes nodes)
+nodes_passed problem walk nodes fell = record {
+  stores = λ rows s stores. record {
+    knows = stores.knows;
     kind = stores.kind;
     lines = stores.lines;
     late = stores.late;
     last = stores.last;
-    in_tree = λ stays. absurd (true≢false (sym failed ∙ stays));
-    falls = λ e all. stores.falls e (fewer_nodes problem node s all);
+    in_tree = λ e.
+        let old = stores.in_tree e in record {
+          walks = old.walks;
+          kept = old.kept;
+          aim = old.aim;
+          used = old.used;
+          next = old.next;
+          stand = old.stand;
+          takes =
+              takes_failed (goal_said problem s.tree) start (way_of problem walk.walk) s.tree.nodes nodes
+              (sym (ap (λ b. b || walk.walk.failed) e) ∙ fell) old.takes;
+        };
+    falls = λ e all. stores.falls e (fewer s all);
     finished = stores.finished;
-  }
+  };
+  placing = refl;
+}
+  where
+    fewer : (s : Said) → AllStandSaid problem (with_nodes nodes s) → AllStandSaid problem s
+    fewer s all = (
+      record {
+        next = all.0.next;
+        nodes = stand_first (goal_said problem s.tree) ([] ∷ []) s.tree.nodes nodes all.0.nodes;
+      },
+      all.1,
+    )
+
+module _ (problem : Parts) (walk : CertWalk) (node : Node) where
+  -- after a tree that doesn't stand
+  pub node_passed : walk.failed ≡ true → StoresMore problem walk walk (with_node node)
+  node_passed failed = nodes_passed problem walk (node ∷ []) (ap (λ b. b || walk.walk.failed) failed)
 
   -- taken by the walk over the tree
   pub node_stored : walk.failed ≡ false → (now : Walk) → IsWalk problem now → Keeps walk.walk now
       → TakesOne problem walk.walk now node
-      → Stores problem rows (record walk { walk = now }) (with_node node s)
-  node_stored stays now walks keeps takes =
-      let old : IsInTree problem walk.walk s.values s.tree s.older = stores.in_tree stays in
-      let step : Takes (goal_said problem s.tree) (way_of problem walk.walk) (way_of problem now) (node ∷ []) =
-      subst (λ (aim : Aim). Takes (goal_of problem (values_in s.tree.aim.range s.tree.values) aim)
-      (way_of problem walk.walk) (way_of problem now) (node ∷ [])) old.aim
-      (subst (λ vs. Takes (goal_of problem vs walk.walk.aim) (way_of problem walk.walk) (way_of problem now)
-      (node ∷ [])) old.used takes) in record {
-        stands = stores.stands;
-        sorted = stores.sorted;
-        some = stores.some;
-        placed = stores.placed;
-        kind = stores.kind;
-        lines = stores.lines;
-        late = stores.late;
-        last = stores.last;
-        in_tree = λ e. record {
-          walks = walks;
-          kept = keeps.values ∙ old.kept;
-          aim = keeps.aim ∙ old.aim;
-          used =
-              (λ i. values_in (keeps.aim i).range (keeps.values i)) ∙ old.used;
-          next = old.next;
-          stand = old.stand;
-          takes =
-              takes_append (goal_said problem s.tree) start (way_of problem walk.walk) (way_of problem now)
-              s.tree.nodes (node ∷ []) old.takes step;
-        };
-        falls = λ e. absurd (true≢false (sym e ∙ stays));
-        finished = stores.finished;
+      → StoresMore problem walk (record walk { walk = now }) (with_node node)
+  node_stored stays now walks keeps takes = record {
+    stores = λ rows s stores. record {
+      knows = stores.knows;
+      kind = stores.kind;
+      lines = stores.lines;
+      late = stores.late;
+      last = stores.last;
+      in_tree = λ e. in_tree_now s (stores.in_tree stays);
+      falls = λ e. absurd (true≢false (sym e ∙ stays));
+      finished = stores.finished;
+    };
+    placing = refl;
+  }
+    where
+      in_tree_now : (s : Said) → IsInTree problem walk.walk s.values s.tree s.older
+          → IsInTree problem now s.values (record s.tree { nodes = s.tree.nodes ++ node ∷ [] }) s.older
+      in_tree_now s old = record {
+        walks = walks;
+        kept = keeps.values ∙ old.kept;
+        aim = keeps.aim ∙ old.aim;
+        used =
+            (λ i. values_in (keeps.aim i).range (keeps.values i)) ∙ old.used;
+        next = old.next;
+        stand = old.stand;
+        takes =
+            takes_append (goal_said problem s.tree) start (way_of problem walk.walk) (way_of problem now)
+            s.tree.nodes (node ∷ []) old.takes
+            (subst (λ goal. Takes goal (way_of problem walk.walk) (way_of problem now) (node ∷ []))
+            (λ i. goal_of problem (old.used i) (old.aim i)) takes);
       }
 
 -- ---- a tree ends, and another one begins
@@ -133,10 +178,7 @@ module _ (problem : Parts) (rows : List MatrixRow) (walk : CertWalk) (s : Said)
   pub begun_failed : (AllStandSaid problem (begun aim last values s) → ⊥)
       → Stores problem rows (record walk { failed = true }) (begun aim last values s)
   begun_failed falls = record {
-    stands = stores.stands;
-    sorted = stores.sorted;
-    some = stores.some;
-    placed = stores.placed;
+    knows = stores.knows;
     kind = stores.kind;
     lines = stores.lines;
     late = stores.late;
@@ -154,10 +196,7 @@ module _ (problem : Parts) (rows : List MatrixRow) (walk : CertWalk) (s : Said)
       → Stores problem rows (record walk { walk = now; last = sender }) (begun aim last values s)
   begun_stored stays next now sender walks begins same kept is used =
       let stay = none_falls walk stays in record {
-        stands = stores.stands;
-        sorted = stores.sorted;
-        some = stores.some;
-        placed = stores.placed;
+        knows = stores.knows;
         kind = stores.kind;
         lines = stores.lines;
         late = stores.late;
@@ -225,17 +264,12 @@ module _ (frames : List Timed) (order : List ℕ) (bit : ℕ) (lines : List Fram
             (first.each (length lines) none (omega (arith, length_push lines line))),
       )
 
--- whether some line doesn't show its frame, where one more shows its own or doesn't
-abbrev pub if_shown : Bool → Bool → Bool
-if_shown true late = late
-if_shown false late = true
-
 -- whether some line so far doesn't show its frame, with one more
 late_more : (problem : Parts) (placing : Option Placing) (lines : List FrameLine) (line : FrameLine)
     (late shows : Bool) (place : ℕ) → IsLate problem placing lines late
     → (late ≡ false → (p : Placing) → placing ≡ Some p → place ≡ length lines)
     → IsShowing problem placing place line shows
-    → IsLate problem placing (lines ++ line ∷ []) (if_shown shows late)
+    → IsLate problem placing (lines ++ line ∷ []) (late || not shows)
 late_more problem None lines line late shows place is at showing = tt
 late_more problem (Some p) lines line true true place is at showing =
     λ first. is (shown_before p.frames.items p.order.items problem.network.nominal_ticks lines line first)
@@ -250,77 +284,65 @@ late_more problem (Some p) lines line false false place is at showing = λ first
     (shown_last p.frames.items p.order.items problem.network.nominal_ticks lines line first) in
     absurd (true≢false (sym (showing.1 shown)))
 
-module _ (problem : Parts) (rows : List MatrixRow) (walk : CertWalk) (line : FrameLine) (s : Said)
-    (stores : Stores problem rows walk s) where
+module _ (problem : Parts) (walk : CertWalk) (line : FrameLine) where
   -- the place of the next line, as long as each so far shows its frame
-  next_place : walk.late ≡ false → (p : Placing) → walk.placing ≡ Some p → walk.lines ≡ length s.lines
-  next_place early p is =
-      let placing : IsPlacing problem rows p = subst (IsPlaced problem rows) is stores.placed in
+  next_place : (rows : List MatrixRow) (s : Said) → Stores problem rows walk s → walk.late ≡ false
+      → (p : Placing) → walk.placing ≡ Some p → walk.lines ≡ length s.lines
+  next_place rows s stores early p is =
+      let placing : IsPlacing problem rows p = subst (IsPlaced problem rows) is stores.knows.placed in
       let late : IsLate problem (Some p) s.lines false =
       subst (λ b. IsLate problem (Some p) s.lines b) early
       (subst (λ q. IsLate problem q s.lines walk.late) is stores.late) in
       omega (arith, late.few, placing.stages.few, stores.lines)
 
   pub line_stored : (shows : Bool) → IsShowing problem walk.placing walk.lines line shows
-      → (late : Bool) → late ≡ if_shown shows walk.late
       → (lines : ℕ) → lines ≡ min (walk.lines + 1) (2 ^ 32 - 1)
-      → Stores problem rows (record walk { late = late; lines = lines }) (with_line line s)
-  line_stored shows showing late is lines more = record {
-    stands = stores.stands;
-    sorted = stores.sorted;
-    some = stores.some;
-    placed = stores.placed;
-    kind = stores.kind;
-    lines = omega (arith, more, stores.lines, length_push s.lines line);
-    late =
-        subst (IsLate problem walk.placing (s.lines ++ line ∷ [])) (sym is)
-        (late_more problem walk.placing s.lines line walk.late shows walk.lines stores.late next_place
-        showing);
-    last = stores.last;
-    in_tree = stores.in_tree;
-    falls = stores.falls;
-    finished = stores.finished;
+      → StoresMore problem walk (record walk { late = walk.late || not shows; lines = lines }) (with_line line)
+  line_stored shows showing lines more = record {
+    stores = λ rows s stores. record {
+      knows = stores.knows;
+      kind = stores.kind;
+      lines = omega (arith, more, stores.lines, length_push s.lines line);
+      late =
+          late_more problem walk.placing s.lines line walk.late shows walk.lines stores.late
+          (next_place rows s stores) showing;
+      last = stores.last;
+      in_tree = stores.in_tree;
+      falls = stores.falls;
+      finished = stores.finished;
+    };
+    placing = refl;
   }
 
 -- ---- the kind, or the end
 
-module _ (problem : Parts) (rows : List MatrixRow) (walk : CertWalk) (s : Said)
-    (stores : Stores problem rows walk s) where
-  pub kind_stored : (kind : Kind)
-      → Stores problem rows (record walk { kind = kind }) (record s { kind = kind })
+module _ (problem : Parts) (walk : CertWalk) where
+  pub kind_stored : (kind : Kind) → StoresMore problem walk (record walk { kind = kind }) (with_kind kind)
   kind_stored kind = record {
-    stands = stores.stands;
-    sorted = stores.sorted;
-    some = stores.some;
-    placed = stores.placed;
-    kind = refl;
-    lines = stores.lines;
-    late = stores.late;
-    last = stores.last;
-    in_tree = stores.in_tree;
-    falls = stores.falls;
-    finished = stores.finished;
+    stores = λ rows s stores. record {
+      knows = stores.knows;
+      kind = refl;
+      lines = stores.lines;
+      late = stores.late;
+      last = stores.last;
+      in_tree = stores.in_tree;
+      falls = stores.falls;
+      finished = stores.finished;
+    };
+    placing = refl;
   }
 
-  pub finish_stored : Stores problem rows (record walk { finished = true }) (record s { finished = true })
+  pub finish_stored : StoresMore problem walk (record walk { finished = true }) with_end
   finish_stored = record {
-    stands = stores.stands;
-    sorted = stores.sorted;
-    some = stores.some;
-    placed = stores.placed;
-    kind = stores.kind;
-    lines = stores.lines;
-    late = stores.late;
-    last = stores.last;
-    in_tree = stores.in_tree;
-    falls = stores.falls;
-    finished = refl;
+    stores = λ rows s stores. record {
+      knows = stores.knows;
+      kind = stores.kind;
+      lines = stores.lines;
+      late = stores.late;
+      last = stores.last;
+      in_tree = stores.in_tree;
+      falls = stores.falls;
+      finished = refl;
+    };
+    placing = refl;
   }
-
--- ---- the load of the matrix
-
-pub has_room : (problem : Parts) (rows : List MatrixRow) (placing : Option Placing) → IsProblem problem
-    → IsPlaced problem rows placing → HasRoom (load_in placing)
-has_room problem rows None stands is = tt
-has_room problem rows (Some placing) stands is =
-    omega (arith, load_fits problem stands (grouping_of problem rows) is.legal, is.load)

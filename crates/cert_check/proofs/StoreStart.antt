@@ -43,10 +43,7 @@ module _ (problem : Parts) (rows : List MatrixRow) (some : Bool) (placing : Opti
       → IsPlaced problem rows placing → IsWalk problem now → way_of problem now ≡ start → now.aim ≡ no_aim
       → now.values.items ≡ replicate (length problem.senders) 0 → Taken fresh problem rows []
   none_stored stands sorted is placed walks begins aim kept = record {
-    stands = stands;
-    sorted = sorted;
-    some = is;
-    placed = placed;
+    knows = record { stands = stands; sorted = sorted; has_rows = is; placed = placed };
     kind = refl;
     lines = omega arith;
     late = none_late problem placing;

@@ -9,7 +9,7 @@ use Rattle.cert_text.specs.Trees.{Plain, Plains, bound, fail, inner, left, more,
 use Rattle.response_test.specs.declared.evidence.Evidence.{Evidence}
 use Rattle.grouping_tree.specs.Partial.{options_of}
 use Rattle.bandwidth_bound.specs.Trees.{Goal, TreeStands, EachStands, open_places, open_places_each}
-use Rattle.cert_check.specs.Nodes.{Node, inner_node, bound_leaf, open_leaf, fail_leaf, count_trees, nodes_of, nodes_of_each, places_of, bounds_at, NodesStand, places_after_nodes, bounds_of, lowered, Way, Takes}
+use Rattle.cert_check.specs.Nodes.{Node, inner_node, bound_leaf, open_leaf, fail_leaf, count_trees, nodes_of, nodes_of_each, places_of, bounds_at, NodesStand, places_after_nodes, bounds_of, lowered, Way, Takes, TakesTree}
 
 -- ---- nodes and then further ones
 
@@ -86,10 +86,6 @@ module _ (goal : Goal) where
     least = λ f. absurd (true≢false (sym e ∙ f));
   }
 
-  -- a walk that failed before takes any nodes
-  pub takes_any : (way : Way) (ns : List Node) → way.failed ≡ true → Takes goal way way ns
-  takes_any way ns e = takes_failed way way [] ns e (takes_none way)
-
   pub takes_append : (before between now : Way) (ns ms : List Node) → Takes goal before between ns
       → Takes goal between now ms → Takes goal before now (ns ++ ms)
   takes_append before between now ns ms a b = by between.failed refl
@@ -122,18 +118,38 @@ module _ (goal : Goal) where
                 ∙ ap (lowered before.least) (sym (bounds_append goal before.places ns ms first));
           }
 
-  -- the nodes of one more element of a list were taken
-  pub takes_more : {X : Type 0} (f : X → List Node) (xs : List X) (i : ℕ) (x : X) (before between now : Way)
-      (first : List Node) → i < length xs → x ≡ get_or xs i x
-      → Takes goal before between (first ++ flat_map f (take i xs)) → Takes goal between now (f x)
-      → Takes goal before now (first ++ flat_map f (take (i + 1) xs))
-  takes_more f xs i x before between now first lt is so_far step =
-      let joined : flat_map f (take i xs) ++ f x ≡ flat_map f (take (i + 1) xs) =
-      flat_map_more f [] (take i xs) x
-      ∙ ap (flat_map f) (ap (λ y. take i xs ++ y ∷ []) is ∙ sym (take_more xs i x lt)) in
-      subst (Takes goal before now)
-      (append_assoc first (flat_map f (take i xs)) (f x) ∙ ap (λ ns. first ++ ns) joined)
-      (takes_append before between now (first ++ flat_map f (take i xs)) (f x) so_far step)
+  -- and what took it over the further ones alone
+  pub takes_further : (before between now : Way) (ns ms : List Node) → before.failed ≡ false
+      → between.failed ≡ false → Takes goal before between ns → Takes goal before now (ns ++ ms)
+      → Takes goal between now ms
+  takes_further before between now ns ms well e a b =
+      let first : NodesStand goal before.places ns = a.stands e in record {
+        stays = λ f. absurd (true≢false (sym f ∙ e));
+        fails = λ f g s. b.fails well g (stand_append goal before.places ns ms first
+            (subst (λ ps. NodesStand goal ps ms) (a.places e) s));
+        stands = λ f.
+            subst (λ ps. NodesStand goal ps ms) (sym (a.places e))
+            (stand_further goal before.places ns ms (b.stands f));
+        places = λ f. b.places f ∙ after_append goal before.places ns ms first
+            ∙ ap (λ ps. places_after_nodes goal ps ms) (sym (a.places e));
+        least = λ f.
+            b.least f ∙ ap (lowered before.least) (bounds_append goal before.places ns ms first)
+            ∙ lowered_append before.least (bounds_of goal before.places ns)
+            (bounds_of goal (places_after_nodes goal before.places ns) ms)
+            ∙ ap (λ o. lowered o (bounds_of goal (places_after_nodes goal before.places ns) ms))
+            (sym (a.least e))
+            ∙ ap (λ ps. lowered between.least (bounds_of goal ps ms)) (sym (a.places e));
+      }
+
+-- the nodes of one more element of a list
+pub more_nodes : {X : Type 0} (f : X → List Node) (first : List Node) (xs : List X) (i : ℕ) (x : X)
+    → i < length xs → x ≡ get_or xs i x
+    → first ++ flat_map f (take i xs) ++ f x ≡ first ++ flat_map f (take (i + 1) xs)
+more_nodes f first xs i x lt is =
+    append_assoc first (flat_map f (take i xs)) (f x)
+    ∙ ap (λ ns. first ++ ns)
+    (flat_map_more f [] (take i xs) x
+    ∙ ap (flat_map f) (ap (λ y. take i xs ++ y ∷ []) is ∙ sym (take_more xs i x lt)))
 
 -- ---- the nodes of a tree
 
@@ -278,17 +294,22 @@ lowered_some_of (x ∷ xs) n e = omega arith
 pub lowered_none : (xs : List ℕ) → lowered None xs ≡ None → ¬ (1 ≤ length xs)
 lowered_none xs empty some = let e : Some (least xs) ≡ None = sym (lowered_least xs some) ∙ empty in absurd cc
 
-module _ (goal : Goal) (tree : Plain) (after : Way)
-    (takes : Takes goal (record { failed = false; places = [] ∷ []; least = None }) after
-    (nodes_of tree)) where
-  -- it fails exactly where the tree doesn't stand
-  pub tree_fails : after.failed ≡ true → ¬ TreeStands goal [] tree
-  tree_fails failed stands = takes.fails refl failed (walked goal [] [] tree stands).stand
-
-  pub tree_stands : after.failed ≡ false → TreeStands goal [] tree
-  tree_stands kept = stood goal [] [] tree (takes.stands kept)
-
-  -- and finds the least bound at the tree's open leaves
-  pub tree_least : after.failed ≡ false
-      → after.least ≡ lowered None (map goal.lower8 (open_places goal.items [] tree))
-  tree_least kept = takes.least kept ∙ ap (lowered None) (walked goal [] [] tree (tree_stands kept)).opens
+-- a tree took a walk from a place
+pub takes_tree : (goal : Goal) (p : List ℕ) (rest : List (List ℕ)) (before after : Way) (tree : Plain)
+    → before.failed ≡ false → before.places ≡ p ∷ rest → Takes goal before after (nodes_of tree)
+    → TakesTree goal p rest before after tree
+takes_tree goal p rest before after tree well at takes = record {
+  fails = λ failed stands.
+      takes.fails well failed (subst (λ ps. NodesStand goal ps (nodes_of tree)) (sym at)
+      (walked goal p rest tree stands).stand);
+  stands = here;
+  places = λ e.
+      takes.places e ∙ ap (λ ps. places_after_nodes goal ps (nodes_of tree)) at
+      ∙ (walked goal p rest tree (here e)).after;
+  least = λ e.
+      takes.least e ∙ ap (λ ps. lowered before.least (bounds_of goal ps (nodes_of tree))) at
+      ∙ ap (lowered before.least) (walked goal p rest tree (here e)).opens;
+}
+  where
+    here : after.failed ≡ false → TreeStands goal p tree
+    here e = stood goal p rest tree (subst (λ ps. NodesStand goal ps (nodes_of tree)) at (takes.stands e))

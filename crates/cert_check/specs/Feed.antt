@@ -1,7 +1,6 @@
 -- What is found of a certificate in a file that is read piece by piece.
-use Rattle.std.specs.Prelude.{◌≡◌, ◌≤◌, ◌<◌, ◌^◌, ⊤, ℕ, List, length, Result, Ok, Err, IsSome, OnOk}
+use Rattle.std.specs.Prelude.{◌≡◌, ◌≤◌, ◌<◌, ◌^◌, ⊤, ℕ, List, length, Result, Ok, Err, OnOk}
 use Rattle.pack_model.specs.Problem.{Parts}
-use Rattle.pack_base.specs.Outside.{Files, bytes_at}
 use Rattle.matrix_rows.specs.declared.matrix.MatrixRow.{MatrixRow}
 use Rattle.cert_text.specs.declared.fault.FeedFault.{FeedFault}
 use Rattle.cert_text.specs.declared.fault.FeedFault.TheVariants as feed_fault

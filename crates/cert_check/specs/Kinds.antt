@@ -1,11 +1,8 @@
 -- Which parts are judged of a kind of certificate.
-use Rattle.std.specs.Prelude.{◌≡◌, Bool, true, false, List, [], ◌∷◌, Option, None, Some}
+use Rattle.std.specs.Prelude.{Bool, true, false, List, [], ◌∷◌}
 use Rattle.matrix_rows.specs.declared.matrix.MatrixRow.{MatrixRow}
 use Rattle.cert_text.specs.declared.parts.Kind.{Kind}
 use Rattle.cert_text.specs.declared.parts.Kind.TheVariants.{KindPlaced, KindTimed, KindBetween, KindBest, KindNoSolution}
-use Rattle.cert_text.specs.declared.parts.FrameLine.{FrameLine}
-use Rattle.cert_check.specs.declared.fault.CheckFault.{CheckFault}
-use Rattle.cert_check.specs.declared.fault.CheckFault.TheVariants as fault
 
 -- the matrix of the kind is to be placed; else it has no rows
 abbrev pub is_to_be_placed : Kind → List MatrixRow → Bool
@@ -28,11 +25,3 @@ is_kind_placed KindTimed = false
 is_kind_placed KindBetween = false
 is_kind_placed KindBest = false
 is_kind_placed KindNoSolution = false
-
--- what fails of a certificate whose matrix is to have no rows: the matrix, or the times, or neither
-abbrev pub FailsWithoutRows : List MatrixRow → List FrameLine → Option CheckFault → Type 0
-FailsWithoutRows rows lines None = (rows ≡ []) × (lines ≡ [])
-FailsWithoutRows rows lines (Some fault.RejectedMatrix) = ¬ (rows ≡ [])
-FailsWithoutRows rows lines (Some fault.RejectedTiming) = (rows ≡ []) × ¬ (lines ≡ [])
-FailsWithoutRows rows lines (Some fault.RejectedTree) = ⊥
-FailsWithoutRows rows lines (Some fault.Memory) = ⊥

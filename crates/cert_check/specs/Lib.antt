@@ -5,6 +5,5 @@ pub mod Laws
 pub mod Nodes
 pub mod Said
 pub mod Taken
-pub mod Timing
 pub mod Trees
 pub mod Walk

@@ -1,13 +1,13 @@
 -- A walk over the nodes of a tree in preorder, which judges each at the place where it stands: the project's
 -- own.
-use Rattle.std.specs.Prelude.{◌≡◌, ◌<◌, ⊤, ℕ, suc, zero, Bool, true, false, min, List, [], ◌∷◌, ◌++◌, length, Option, None, Some}
+use Rattle.std.specs.Prelude.{◌≡◌, ◌<◌, ⊤, ℕ, suc, zero, Bool, true, false, min, List, [], ◌∷◌, ◌++◌, length, map, Option, None, Some}
 use Rattle.pack_model.specs.declared.item.Item.{Item}
 use Rattle.cert_text.specs.Trees.{Plain, Plains, bound, fail, inner, left, more, none}
 use Rattle.response_test.specs.declared.evidence.Evidence.{Evidence}
 use Rattle.grouping_tree.specs.Partial.{options_of}
 use Rattle.grouping_tree.specs.Walk.{places_below}
 use Rattle.bandwidth_bound.specs.Bounds.{Reaches}
-use Rattle.bandwidth_bound.specs.Trees.{Goal}
+use Rattle.bandwidth_bound.specs.Trees.{Goal, TreeStands, open_places}
 
 -- a node of a tree: an inner node with so many subtrees, or a leaf
 pub data Node : Type 0 where
@@ -93,6 +93,16 @@ pub record Way : Type 0 where
   pub failed : Bool
   pub places : List (List ℕ)
   pub least : Option ℕ
+
+-- A tree took a walk from a place, before these others, to the next of them: it failed exactly where the tree
+-- doesn't stand at the place, and the least bound was lowered to those at the tree's open leaves.
+pub record TakesTree (goal : Goal) (p : List ℕ) (rest : List (List ℕ)) (before after : Way)
+    (tree : Plain) : Type 0 where
+  pub fails : after.failed ≡ true → ¬ TreeStands goal p tree
+  pub stands : after.failed ≡ false → TreeStands goal p tree
+  pub places : after.failed ≡ false → after.places ≡ rest
+  pub least : after.failed ≡ false
+      → after.least ≡ lowered before.least (map goal.lower8 (open_places goal.items p tree))
 
 -- nodes took a walk from the one to the other: it failed exactly where one of them doesn't stand, and stays
 -- failed

@@ -1,5 +1,5 @@
 -- What the events of a certificate say, one after the other: its trees as the nodes that were told of them.
-use Rattle.std.specs.Prelude.{◌*◌, ℕ, Bool, true, false, List, [], ◌∷◌, ◌++◌, length, Option, None, Some, fold, replicate, slice_set}
+use Rattle.std.specs.Prelude.{ℕ, Bool, true, false, List, [], ◌∷◌, ◌++◌, length, Option, None, Some, fold, replicate, slice_set}
 use Rattle.pack_model.specs.Problem.{Parts}
 use Rattle.cert_text.specs.declared.event.Event.{Event}
 use Rattle.cert_text.specs.declared.event.Event.TheVariants as event
@@ -89,13 +89,24 @@ with_nodes nodes s = record s { tree = record s.tree { nodes = s.tree.nodes ++ n
 abbrev pub with_node : Node → Said → Said
 with_node node s = with_nodes (node ∷ []) s
 
--- one frame line more
+-- the kind
+abbrev pub with_kind : Kind → Said → Said
+with_kind kind s = record s { kind = kind }
+
+-- further frame lines
+abbrev pub with_lines : List FrameLine → Said → Said
+with_lines lines s = record s { lines = s.lines ++ lines }
+
 abbrev pub with_line : FrameLine → Said → Said
-with_line line s = record s { lines = s.lines ++ line ∷ [] }
+with_line line s = with_lines (line ∷ []) s
+
+-- the end
+abbrev pub with_end : Said → Said
+with_end s = record s { finished = true }
 
 -- one event more, where the load of the matrix is this; marks say nothing
 abbrev pub and_said : Option ℕ → Said → Event → Said
-and_said best s (event.Head kind) = record s { kind = kind }
+and_said best s (event.Head kind) = with_kind kind s
 and_said best s (event.FrameOf line) = with_line line s
 and_said best s (event.LemmaOf sender value) = lemma_begun sender value s
 and_said best s event.Main = main_begun best s
@@ -105,7 +116,7 @@ and_said best s event.OpenLeaf = with_node open_leaf s
 and_said best s (event.FailLeaf named) = with_node (fail_leaf named) s
 and_said best s event.ShardMark = s
 and_said best s event.JoinMark = s
-and_said best s event.Finish = record s { finished = true }
+and_said best s event.Finish = with_end s
 
 -- what events say
 abbrev pub said_by : Parts → Option ℕ → List Event → Said
@@ -116,22 +127,19 @@ abbrev pub lemma_said : Said → LemmaOf Plain → Said
 lemma_said s lemma = with_nodes (nodes_of lemma.tree) (lemma_begun lemma.sender lemma.value s)
 
 -- lemmas with theirs
-abbrev pub lemmas_said : Said → List (LemmaOf Plain) → Said
-lemmas_said s [] = s
-lemmas_said s (lemma ∷ lemmas) = lemmas_said (lemma_said s lemma) lemmas
+abbrev pub lemmas_said : List (LemmaOf Plain) → Said → Said
+lemmas_said lemmas s = fold lemma_said s lemmas
 
 -- a whole main tree, if there is one
-abbrev pub main_said : Option ℕ → Said → Option Plain → Said
-main_said best s None = s
-main_said best s (Some tree) = with_nodes (nodes_of tree) (main_begun best s)
+abbrev pub main_said : Option ℕ → Option Plain → Said → Said
+main_said best None s = s
+main_said best (Some tree) s = with_nodes (nodes_of tree) (main_begun best s)
 
 -- the kind and the frame lines of a certificate
 abbrev pub lines_said : Parts → CertParts → Said
-lines_said problem cert = record (nothing_said problem) { kind = cert.kind; lines = cert.frames }
+lines_said problem cert = with_lines cert.frames (with_kind cert.kind (nothing_said problem))
 
 -- a whole certificate
 abbrev pub cert_said : Parts → Option ℕ → CertParts → Said
 cert_said problem best cert =
-    record (main_said best (lemmas_said (lines_said problem cert) cert.lemmas) cert.main_tree) {
-      finished = true;
-    }
+    with_end (main_said best cert.main_tree (lemmas_said cert.lemmas (lines_said problem cert)))

@@ -24,7 +24,7 @@ use Rattle.cert_check.specs.declared.fault.CheckFault.TheVariants as fault
 use Rattle.cert_check.specs.declared.placing.Placing.{Placing}
 use Rattle.cert_check.specs.declared.walk.Walk.{Walk}
 use Rattle.cert_check.specs.Kinds.{has_row}
-use Rattle.cert_check.specs.Nodes.{NodesStand, Takes}
+use Rattle.cert_check.specs.Nodes.{NodesStand, Takes, Way}
 use Rattle.cert_check.specs.Said.{Said, TreeSaid, cert_said, said_by}
 use Rattle.cert_check.specs.Trees.{lower_with}
 use Rattle.cert_check.specs.Walk.{IsWalk, goal_of, start, values_in, values_used, way_of}
@@ -105,15 +105,20 @@ pub record IsInTree (problem : Parts) (walk : Walk) (values : List ℕ) (tree : 
   pub stand : EachStandsSaid problem older
   pub takes : Takes (goal_said problem tree) start (way_of problem walk) tree.nodes
 
--- What the walk stores where this was said: whether the matrix has rows and is placed, with its frames; the
--- kind; how many frame lines there were, up to 2^32 - 1, and whether one of them doesn't show its frame; the
--- last lemma's sender and the place in the tree as long as all that was told of trees stands, and else that
--- some of it doesn't; whether the end was said.
-pub record Stores (problem : Parts) (rows : List MatrixRow) (walk : CertWalk) (s : Said) : Type 0 where
+-- a problem and its matrix stand, with whether the matrix has rows and is placed, and its frames
+pub record KnowsMatrix (problem : Parts) (rows : List MatrixRow) (some : Bool)
+    (placing : Option Placing) : Type 0 where
   pub stands : IsProblem problem
   pub sorted : IsSorted problem.signals problem.items
-  pub some : walk.has_rows ≡ has_row rows
-  pub placed : IsPlaced problem rows walk.placing
+  pub has_rows : some ≡ has_row rows
+  pub placed : IsPlaced problem rows placing
+
+-- What the walk stores where this was said: what it knows of the matrix; the kind; how many frame lines there
+-- were, up to 2^32 - 1, and whether one of them doesn't show its frame; the last lemma's sender and the place in
+-- the tree as long as all that was told of trees stands, and else that some of it doesn't; whether the end was
+-- said.
+pub record Stores (problem : Parts) (rows : List MatrixRow) (walk : CertWalk) (s : Said) : Type 0 where
+  pub knows : KnowsMatrix problem rows walk.has_rows walk.placing
   pub kind : walk.kind ≡ s.kind
   pub lines : walk.lines ≡ min (length s.lines) (2 ^ 32 - 1)
   pub late : IsLate problem walk.placing s.lines walk.late
@@ -121,6 +126,12 @@ pub record Stores (problem : Parts) (rows : List MatrixRow) (walk : CertWalk) (s
   pub in_tree : walk.failed ≡ false → IsInTree problem walk.walk s.values s.tree s.older
   pub falls : walk.failed ≡ true → ¬ AllStandSaid problem s
   pub finished : walk.finished ≡ s.finished
+
+-- a walk went on from the one to the other by more that was said
+pub record StoresMore (problem : Parts) (before after : CertWalk) (more : Said → Said) : Type 0 where
+  pub stores : (rows : List MatrixRow) (s : Said) → Stores problem rows before s
+      → Stores problem rows after (more s)
+  pub placing : after.placing ≡ before.placing
 
 -- the walk took these events, over this problem and this matrix
 abbrev pub Taken : CertWalk → Parts → List MatrixRow → List Event → Type 0
@@ -157,6 +168,10 @@ pub record IsWhole (problem : Parts) (rows : List MatrixRow) (walk : CertWalk) (
 -- something of the trees doesn't stand
 abbrev pub falls : CertWalk → Bool
 falls walk = walk.failed || walk.walk.failed
+
+-- where a walk is in its tree; it has failed where something of the trees doesn't stand
+abbrev pub way_in : Parts → CertWalk → Way
+way_in problem walk = record (way_of problem walk.walk) { failed = falls walk }
 
 -- the answer is this verdict, unless something of the trees doesn't stand
 abbrev pub IsClosed : CertWalk → Verdict → Result Verdict CheckFault → Type 0

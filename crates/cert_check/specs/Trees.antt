@@ -1,11 +1,9 @@
 -- What is found of the trees of a certificate, where its matrix and its times hold.
-use Rattle.std.specs.Prelude.{◌≡◌, ◌≤◌, ◌<◌, ◌*◌, ◌^◌, ⊤, ℕ, min, Bool, true, false, List, length, map, Option, None, Some, Result, Ok, Err, unwrap_or}
-use Rattle.std.specs.List.Sorted.{IsStrictlyIncreasing}
+use Rattle.std.specs.Prelude.{◌≡◌, ◌≤◌, ◌<◌, ◌*◌, ◌^◌, ⊤, ℕ, min, true, false, length, map, Option, None, Some, Result, Ok, Err, unwrap_or}
 use Rattle.pack_model.specs.Problem.{Parts}
 use Rattle.cert_text.specs.declared.parts.Kind.{Kind}
 use Rattle.cert_text.specs.declared.parts.Kind.TheVariants.{KindPlaced, KindTimed, KindBetween, KindBest, KindNoSolution}
-use Rattle.cert_text.specs.Parts.{CertParts, LemmaOf}
-use Rattle.cert_text.specs.Trees.{Plain}
+use Rattle.cert_text.specs.Parts.{CertParts}
 use Rattle.bandwidth_bound.specs.Lemmas.{values_of}
 use Rattle.bandwidth_bound.specs.Prices.{lower8_of}
 use Rattle.bandwidth_bound.specs.Rule.{TreesStand, lower_of, open_of}
@@ -15,24 +13,11 @@ use Rattle.cert_check.specs.declared.fault.CheckFault.{CheckFault}
 use Rattle.cert_check.specs.declared.fault.CheckFault.TheVariants as fault
 use Rattle.cert_check.specs.Nodes.{lowered}
 
--- the lemmas are by strictly ascending sender
-abbrev pub AreAscending : List (LemmaOf Plain) → Type 0
-AreAscending lemmas = IsStrictlyIncreasing (map (λ lemma. lemma.sender) lemmas)
-
 -- the least bound at the open leaves of the main tree, if it has any
 abbrev pub least_left : Parts → CertParts → Option ℕ
 least_left problem cert =
     lowered None
     (map (lower8_of problem (values_of problem cert.lemmas) problem.items) (open_of problem cert.main_tree))
-
--- the answer is that bound, where the trees stand
-abbrev pub IsWalked : Parts → Option ℕ → Bool → CertParts → Result (Option ℕ) CheckFault → Type 0
-IsWalked problem best may_leave cert (Ok least) =
-    TreesStand problem best may_leave cert × (least ≡ least_left problem cert)
-IsWalked problem best may_leave cert (Err fault.RejectedMatrix) = ⊥
-IsWalked problem best may_leave cert (Err fault.RejectedTiming) = ⊥
-IsWalked problem best may_leave cert (Err fault.RejectedTree) = ¬ TreesStand problem best may_leave cert
-IsWalked problem best may_leave cert (Err fault.Memory) = ⊤
 
 -- 8 times the best fits 128 bits
 abbrev pub HasRoom : Option ℕ → Type 0

@@ -7,17 +7,17 @@ ghost use Rattle.cert_text.specs.CertEvents.{cert_events};
 ghost use Rattle.cert_text.specs.Parts.{CertOf, CertParts, unmark_cert};
 ghost use Rattle.cert_text.specs.Trees.{Marked};
 ghost use Rattle.bandwidth_bound.specs.Follows.{Holds};
+ghost use Rattle.bandwidth_bound.specs.Goals.{eighths};
 ghost use Rattle.bandwidth_bound.specs.Rule.{MatrixOfKind, TimingOfKind};
 ghost use Rattle.cert_check.specs.Accept.{IsFound, judged_of};
 ghost use Rattle.cert_check.specs.Nodes.{bound_leaf, fail_leaf, inner_node, open_leaf};
-ghost use Rattle.cert_check.specs.Said.{Said, and_said, lemma_begun, main_begun, with_line, with_node};
-ghost use Rattle.cert_check.specs.Trees.{HasRoom, IsAnswer};
-ghost use Rattle.cert_check.specs.Taken.{HasOwnParts, IsClosed, IsOpen, IsWhole, ComesNext, HasStored, HasTaken, IsShowing, Stores, Taken, load_in};
+ghost use Rattle.cert_check.specs.Said.{Said, and_said, lemma_begun, main_begun, with_end, with_kind, with_line, with_node};
+ghost use Rattle.cert_check.specs.Trees.{HasRoom, IsAnswer, lower_with};
+ghost use Rattle.cert_check.specs.Taken.{HasOwnParts, IsClosed, IsOpen, IsWhole, ComesNext, HasStored, HasTaken, IsShowing, Stores, StoresMore, Taken, load_in};
 
 use crate::fault::CheckFault;
 use crate::kinds::{is_kind_placed, may_leave};
 use crate::placing::{Placing, place};
-use crate::trees::{in_eighths, lower_with};
 use crate::walk::{Aim, Walk};
 use bandwidth_bound::Verdict;
 use cert_text::{Event, FrameLine, Kind};
@@ -25,6 +25,28 @@ use matrix_text::Matrix;
 use pack_model::{Memory, Problem};
 use response_test::Evidence;
 use std::alloc::Global;
+
+/// A load in eighths.
+fn in_eighths(best: Option<u128>) -> Option<u128>
+    requires { HasRoom best }
+    ensures { result ≡ eighths best }
+{
+    match best {
+        None => None,
+        Some(load) => Some(8 * load),
+    }
+}
+
+/// The lesser of a bound in eighths and of the load of the best, if there is one.
+fn lower_with(best: Option<u128>, least: u128) -> u128
+    requires { HasRoom best }
+    ensures { result ≡ lower_with best least }
+{
+    match best {
+        None => least,
+        Some(load) => least.min(8 * load),
+    }
+}
 
 /// A walk over the events of a certificate, which judges it with a matrix, and keeps none of its trees.
 #[derive(Drop)]
@@ -93,7 +115,7 @@ impl CertWalk {
     }
 
     /// Whether something of the trees doesn't stand.
-    fn trees_fail(&self) -> bool
+    pub(crate) fn trees_fail(&self) -> bool
         ensures { result ≡ self.now.failed || self.now.walk.failed }
     {
         self.failed || self.walk.has_failed()
@@ -101,9 +123,7 @@ impl CertWalk {
 
     /// Takes the kind.
     pub(crate) fn take_kind(&mut self, kind: Kind)
-        ensures stores { (problem : Parts) (rows : List MatrixRow) (s : Said) → Stores problem rows self.old s
-            → Stores problem rows self.new (record s { kind = kind }) }
-        ensures placing { self.new.placing ≡ self.old.placing }
+        ensures { (problem : Parts) → StoresMore problem self.old self.new (with_kind kind) }
     {
         self.kind = kind;
     }
@@ -125,13 +145,9 @@ impl CertWalk {
     /// Takes a frame line.
     pub(crate) fn take_line(&mut self, problem: &Problem, line: &FrameLine)
         requires { HasStored problem.now self.old }
-        ensures stores { (rows : List MatrixRow) (s : Said) → Stores problem.now rows self.old s
-            → Stores problem.now rows self.new (with_line line.now s) }
-        ensures placing { self.new.placing ≡ self.old.placing }
+        ensures { StoresMore problem.now self.old self.new (with_line line.now) }
     {
-        if !self.line_shows(problem, line) {
-            self.late = true;
-        }
+        self.late |= !self.line_shows(problem, line);
         self.lines = self.lines.saturating_add(1);
     }
 
@@ -151,9 +167,7 @@ impl CertWalk {
     /// Takes the line of a lemma; its tree begins.
     pub(crate) fn take_lemma(&mut self, problem: &Problem, sender: u32, value: u128)
         requires { HasStored problem.now self.old }
-        ensures stores { (rows : List MatrixRow) (s : Said) → Stores problem.now rows self.old s
-            → Stores problem.now rows self.new (lemma_begun sender value s) }
-        ensures placing { self.new.placing ≡ self.old.placing }
+        ensures { StoresMore problem.now self.old self.new (lemma_begun sender value) }
     {
         if self.trees_fail() || !self.comes_next(problem, sender) {
             self.failed = true;
@@ -172,9 +186,7 @@ impl CertWalk {
     /// The main tree begins.
     pub(crate) fn take_main(&mut self, problem: &Problem)
         requires { HasStored problem.now self.old }
-        ensures stores { (rows : List MatrixRow) (s : Said) → Stores problem.now rows self.old s
-            → Stores problem.now rows self.new (main_begun (load_in self.old.placing) s) }
-        ensures placing { self.new.placing ≡ self.old.placing }
+        ensures { StoresMore problem.now self.old self.new (main_begun (load_in self.old.placing)) }
     {
         if self.trees_fail() {
             self.failed = true;
@@ -191,9 +203,7 @@ impl CertWalk {
     /// Takes an inner node with so many subtrees.
     pub(crate) fn take_inner(&mut self, problem: &Problem, subtrees: usize)
         requires { HasStored problem.now self.old }
-        ensures stores { (rows : List MatrixRow) (s : Said) → Stores problem.now rows self.old s
-            → Stores problem.now rows self.new (with_node (inner_node subtrees) s) }
-        ensures placing { self.new.placing ≡ self.old.placing }
+        ensures { StoresMore problem.now self.old self.new (with_node (inner_node subtrees)) }
     {
         if !self.failed {
             self.walk.take_inner(problem, subtrees);
@@ -203,9 +213,7 @@ impl CertWalk {
     /// Takes a bound leaf.
     pub(crate) fn take_bound(&mut self, problem: &Problem)
         requires { HasStored problem.now self.old }
-        ensures stores { (rows : List MatrixRow) (s : Said) → Stores problem.now rows self.old s
-            → Stores problem.now rows self.new (with_node bound_leaf s) }
-        ensures placing { self.new.placing ≡ self.old.placing }
+        ensures { StoresMore problem.now self.old self.new (with_node bound_leaf) }
     {
         if !self.failed {
             self.walk.take_bound(problem);
@@ -215,9 +223,7 @@ impl CertWalk {
     /// Takes an open leaf.
     pub(crate) fn take_open(&mut self, problem: &Problem)
         requires { HasStored problem.now self.old }
-        ensures stores { (rows : List MatrixRow) (s : Said) → Stores problem.now rows self.old s
-            → Stores problem.now rows self.new (with_node open_leaf s) }
-        ensures placing { self.new.placing ≡ self.old.placing }
+        ensures { StoresMore problem.now self.old self.new (with_node open_leaf) }
     {
         if !self.failed {
             self.walk.take_open(problem);
@@ -227,9 +233,7 @@ impl CertWalk {
     /// Takes a fail leaf.
     pub(crate) fn take_fail(&mut self, problem: &Problem, named: &[(u32, Evidence)])
         requires { HasStored problem.now self.old }
-        ensures stores { (rows : List MatrixRow) (s : Said) → Stores problem.now rows self.old s
-            → Stores problem.now rows self.new (with_node (fail_leaf named.now) s) }
-        ensures placing { self.new.placing ≡ self.old.placing }
+        ensures { StoresMore problem.now self.old self.new (with_node (fail_leaf named.now)) }
     {
         if !self.failed {
             self.walk.take_fail(problem, named);
@@ -237,10 +241,8 @@ impl CertWalk {
     }
 
     /// Takes the end.
-    fn take_finish(&mut self)
-        ensures stores { (problem : Parts) (rows : List MatrixRow) (s : Said) → Stores problem rows self.old s
-            → Stores problem rows self.new (record s { finished = true }) }
-        ensures placing { self.new.placing ≡ self.old.placing }
+    pub(crate) fn take_finish(&mut self)
+        ensures { (problem : Parts) → StoresMore problem self.old self.new with_end }
     {
         self.finished = true;
     }
@@ -248,9 +250,8 @@ impl CertWalk {
     /// Takes the next event. It takes no memory.
     fn take_event(&mut self, problem: &Problem, event: &Event)
         requires { HasStored problem.now self.old }
-        ensures stores { (rows : List MatrixRow) (s : Said) → Stores problem.now rows self.old s
-            → Stores problem.now rows self.new (and_said (load_in self.old.placing) s event.now) }
-        ensures placing { self.new.placing ≡ self.old.placing }
+        ensures { StoresMore problem.now self.old self.new
+            (λ s. and_said (load_in self.old.placing) s event.now) }
     {
         match event {
             Event::Head(kind) => self.take_kind(*kind),
@@ -352,6 +353,8 @@ impl CertWalk {
         requires { (problem : Parts) × HasStored problem self.now }
         ensures found { (problem : Parts) (rows : List MatrixRow) (cert : CertParts)
             → IsWhole problem rows self.now cert → IsFound problem rows cert result }
+        ensures holds { (problem : Parts) (rows : List MatrixRow) (cert : CertParts)
+            → IsWhole problem rows self.now cert → OnOk result (Holds (judged_of problem rows cert)) }
         ensures known { ¬ (IsErrOf result CheckFault.Memory) }
     {
         if !self.matrix_stands() {

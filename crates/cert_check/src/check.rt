@@ -1,17 +1,53 @@
 //! The checking of a certificate.
-ghost use Rattle.std.specs.Prelude.{OnOk};
+ghost use Rattle.std.specs.Prelude.{OnOk, map};
+ghost use Rattle.std.specs.Option.{option_copied, option_map};
+ghost use Rattle.cert_text.specs.PlainTree.{plain_lemma, plain_of};
 ghost use Rattle.bandwidth_bound.specs.Follows.{Holds};
 ghost use Rattle.cert_check.specs.Accept.{IsFound, judged_of};
+ghost use Rattle.cert_check.specs.Said.{lemmas_said, main_said, with_lines};
+ghost use Rattle.cert_check.specs.Taken.{HasStored, StoresMore, load_in};
 
+use crate::cert_walk::CertWalk;
 use crate::fault::CheckFault;
-use crate::kinds::{fault_without_rows, is_kind_placed, is_to_be_placed};
-use crate::timing::judge_timing;
-use crate::trees::judge_trees;
+use crate::tree::take_tree;
 use bandwidth_bound::Verdict;
-use cert_text::Cert;
-use matrix_text::{Matrix, labels_of};
+use cert_text::{Cert, FrameLine, Lemma, Tree};
+use matrix_text::Matrix;
 use pack_model::Problem;
 use std::alloc::Global;
+
+/// Takes frame lines.
+fn take_lines(walk: &mut CertWalk, problem: &Problem, lines: &[FrameLine])
+    requires { HasStored problem.now walk.old }
+    ensures { StoresMore problem.now walk.old walk.new (with_lines lines.now) }
+{
+    for line in lines {
+        walk.take_line(problem, line);
+    }
+}
+
+/// Takes lemmas with their trees.
+fn take_lemmas(walk: &mut CertWalk, problem: &Problem, lemmas: &[Lemma])
+    requires { HasStored problem.now walk.old }
+    ensures { StoresMore problem.now walk.old walk.new (lemmas_said (map plain_lemma lemmas.now)) }
+{
+    for lemma in lemmas {
+        walk.take_lemma(problem, lemma.sender, lemma.value);
+        take_tree(walk, problem, &lemma.tree);
+    }
+}
+
+/// Takes the main tree, if there is one.
+fn take_main_tree(walk: &mut CertWalk, problem: &Problem, tree: Option<&Tree>)
+    requires { HasStored problem.now walk.old }
+    ensures { StoresMore problem.now walk.old walk.new
+        (main_said (load_in walk.old.placing) (option_map plain_of (option_copied tree.entry))) }
+{
+    if let Some(tree) = tree {
+        walk.take_main(problem);
+        take_tree(walk, problem, tree);
+    }
+}
 
 /// The verdict of a certificate on a problem's matrix, by the acceptance rule.
 ///
@@ -28,25 +64,11 @@ pub fn check_cert(
     ensures found { IsFound problem.now matrix.now cert.now result }
     ensures holds { OnOk result (Holds (judged_of problem.now matrix.now cert.now)) }
 {
-    let items = problem.items().len();
-    let kind = cert.kind();
-    let lines = cert.frames();
-    if !is_to_be_placed(kind, matrix.rows()) {
-        return match fault_without_rows(matrix.rows(), lines) {
-            None => judge_trees(alloc, problem, cert, None),
-            Some(fault) => Err(fault),
-        };
-    }
-    let mut labels = vec![in alloc; 0u32; items]?;
-    let mut order = vec![in alloc; 0u32; items]?;
-    let Some(frames) = labels_of(problem, matrix, &mut labels, &mut order) else {
-        return Err(CheckFault::RejectedMatrix);
-    };
-    if is_kind_placed(kind) {
-        return Ok(Verdict::Placed);
-    }
-    match judge_timing(alloc, problem, &labels, &order[..frames as usize], lines) {
-        Ok(load) => judge_trees(alloc, problem, cert, Some(load)),
-        Err(fault) => Err(fault),
-    }
+    let mut walk = CertWalk::new(alloc, problem, matrix)?;
+    walk.take_kind(cert.kind());
+    take_lines(&mut walk, problem, cert.frames());
+    take_lemmas(&mut walk, problem, cert.lemmas());
+    take_main_tree(&mut walk, problem, cert.main_tree());
+    walk.take_finish();
+    walk.judge()
 }

@@ -3,6 +3,7 @@
 //! The one contract that upper crates use is that of [`check_cert`]: it answers by the acceptance rule, with
 //! the verdict of the certificate's kind or the first part that fails, and where it gives a verdict, what
 //! follows from it holds. The law [`accepted_holds`] says this of whatever the rule accepts.
+//! A certificate is judged by [`CertWalk`] alone, event by event; [`check_cert`] and [`check_feed`] go by it.
 #![tactic(auto)]
 
 mod cert_walk;
@@ -10,19 +11,16 @@ mod check;
 mod fault;
 mod kinds;
 mod laws;
-mod lemmas;
 mod one_pass;
 mod placing;
-mod timing;
 mod tree;
-mod trees;
 mod walk;
 
 pub use bandwidth_bound::Verdict;
 pub use cert_walk::CertWalk;
 pub use check::check_cert;
 pub use fault::CheckFault;
-pub use laws::accepted_holds;
+pub use laws::{accepted_holds, subtree_taken};
 pub use one_pass::{FeedCheck, check_feed};
 
 #[cfg(test)]

@@ -113,7 +113,7 @@ impl Walk {
         requires { sender < length self.old.values.items }
         ensures ready { (problem : Parts) → IsReady problem self.old → IsReady problem self.new }
         ensures values { self.new.values.items ≡ slice_set self.old.values.items sender value }
-        ensures failed { self.new.failed ≡ self.old.failed }
+        ensures rest { self.new ≡ record self.old { values = self.new.values } }
     {
         self.values[sender as usize] = value;
     }

@@ -1,5 +1,5 @@
 use Rattle.bandwidth_bound.specs.Rule.{MatrixOfKind, TimingOfKind}
-use Rattle.cert_check.proofs.Judged.{found_whole, matrix_asked, timing_asked}
+use Rattle.cert_check.proofs.Judged.{found_whole, holds_whole, matrix_asked, timing_asked}
 use Rattle.cert_check.proofs.Nexts.{denied, said}
 use Rattle.cert_check.proofs.cert_walk.CertWalk.judge.Goals as goal
 
@@ -34,6 +34,11 @@ returns-clause-found c = λ problem rows cert whole.
     (timing_asked problem rows c.args.self.now cert whole c.timing_stands.result
     (c.timing_stands.ensures problem rows) matrix))
     c.judge_trees.result (c.judge_trees.ensures.answers problem rows cert whole)
+
+pub returns-clause-holds : goal.returns-clause-holds
+returns-clause-holds c = λ problem rows cert whole.
+    holds_whole problem rows c.args.self.now cert whole c.judge_trees.result
+    (returns-clause-found c problem rows cert whole)
 
 pub returns-clause-known : goal.returns-clause-known
 returns-clause-known c = c.judge_trees.ensures.known

@@ -5,14 +5,14 @@ use Rattle.bandwidth_bound.specs.declared.verdict.Verdict.TheVariants as verdict
 use Rattle.cert_check.specs.Taken.{IsClosed, IsOpen}
 use Rattle.cert_check.specs.Trees.{HasRoom}
 use Rattle.cert_check.proofs.Judged.{answer_by}
-use Rattle.cert_check.proofs.StoreLaws.{has_room}
+use Rattle.cert_check.proofs.Found.{has_room}
 use Rattle.cert_check.proofs.cert_walk.CertWalk.judge_trees.Goals as goal
 
 pub judge_open-requires : goal.judge_open-requires
 judge_open-requires c =
     let stores = c.requires.1.2 in
     subst HasRoom (sym c.best-best.ensures)
-    (has_room c.requires.0 c.requires.1.0 c.args.self.now.placing stores.stands stores.placed)
+    (has_room c.requires.0 c.requires.1.0 c.args.self.now.placing stores.knows.stands stores.knows.placed)
 
 pub returns-in-KindPlaced-clause-answers : goal.returns-in-KindPlaced-clause-answers
 returns-in-KindPlaced-clause-answers c = λ problem rows cert whole.

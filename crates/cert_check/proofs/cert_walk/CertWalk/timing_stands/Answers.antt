@@ -16,7 +16,7 @@ returns-then-not-self c = λ problem rows s stores matrix.
     (subst (λ b. IsTrue (not b && nat_eq c.args.self.now.lines (length c.in-Some.placing.order.items))
     ↔ TimingOfKind s.kind problem rows s.lines) c.if-not-self.true
     (timing_some problem rows c.args.self.now s stores matrix c.in-Some.placing
-    (subst (IsPlaced problem rows) c.in-Some.is stores.placed)
+    (subst (IsPlaced problem rows) c.in-Some.is stores.knows.placed)
     (subst (λ p. IsLate problem p s.lines c.args.self.now.late) c.in-Some.is stores.late) kind))
 
 pub returns-else-not-self : goal.returns-else-not-self
@@ -27,5 +27,5 @@ returns-else-not-self c = λ problem rows s stores matrix.
     (subst (λ b. IsTrue (not b && nat_eq c.args.self.now.lines (length c.in-Some.placing.order.items))
     ↔ TimingOfKind s.kind problem rows s.lines) c.if-not-self.false
     (timing_some problem rows c.args.self.now s stores matrix c.in-Some.placing
-    (subst (IsPlaced problem rows) c.in-Some.is stores.placed)
+    (subst (IsPlaced problem rows) c.in-Some.is stores.knows.placed)
     (subst (λ p. IsLate problem p s.lines c.args.self.now.late) c.in-Some.is stores.late) kind))
