@@ -227,7 +227,8 @@ module _ (problem : Parts) (rows : List MatrixRow) (walk : CertWalk) (cert : Cer
         trees_stand problem cert best tree is all in (
           stand,
           (takes_tree _ [] [] start (way_of problem walk.walk) tree refl refl there.takes).least stay.1
-              ∙ ap (λ vs. lowered None (map (lower8_of problem vs problem.items) (open_places problem.items [] tree)))
+              ∙ ap (λ vs. lowered None (map (lower8_of problem vs problem.items)
+              (open_places problem.items [] tree)))
               (values_are problem cert best tree stand.lemmas)
               ∙ ap (λ t. lowered None (map (lower8_of problem (values_of problem cert.lemmas) problem.items)
               (open_of problem t))) (sym is),
@@ -250,7 +251,8 @@ module _ (problem : Parts) (rows : List MatrixRow) (walk : CertWalk) (cert : Cer
     -- the kind `open`
     open_verdict : may_leave_of cert.kind ≡ true → (answer : Result Verdict CheckFault)
         → IsOpen walk best answer
-        → IsVerdict (TreeOfBest KindBetween problem best cert) (verdict_of KindBetween problem best cert) answer
+        → IsVerdict (TreeOfBest KindBetween problem best cert) (verdict_of KindBetween problem best cert)
+        answer
     open_verdict leave (Ok v) found =
         let trees = trees_shown found.0 in
         let shown = some_open problem best cert found.1.0
@@ -341,7 +343,8 @@ module _ (problem : Parts) (rows : List MatrixRow) (walk : CertWalk) (cert : Cer
       → IsFound problem rows cert answer
   found_whole matrix timing answer judged =
       found_by_trees problem rows cert (load_in walk.placing) matrix timing
-      (best_same walk.placing whole.stores.knows.placed matrix) (load_same walk.placing whole.stores.knows.placed matrix)
+      (best_same walk.placing whole.stores.knows.placed matrix)
+      (load_same walk.placing whole.stores.knows.placed matrix)
       answer judged
 
   -- what follows
@@ -356,5 +359,5 @@ module _ (problem : Parts) (rows : List MatrixRow) (walk : CertWalk) (cert : Cer
           (without_placing cert.kind problem rows other found.rule.matrix) (Ok shown) found
       by None other (Err why) found = tt
       by (Some placing) is answer found =
-          holds_placed problem rows cert whole.stores.knows.stands whole.stores.knows.sorted is.one_place is.legal is.named
-          answer found
+          holds_placed problem rows cert whole.stores.knows.stands whole.stores.knows.sorted is.one_place
+          is.legal is.named answer found

@@ -174,20 +174,6 @@ begun aim last values s = record (tree_begun aim s) { last = last; values = valu
 
 module _ (problem : Parts) (rows : List MatrixRow) (walk : CertWalk) (s : Said)
     (stores : Stores problem rows walk s) (aim : Aim) (last : Option ℕ) (values : List ℕ) where
-  -- something doesn't stand
-  pub begun_failed : (AllStandSaid problem (begun aim last values s) → ⊥)
-      → Stores problem rows (record walk { failed = true }) (begun aim last values s)
-  begun_failed falls = record {
-    knows = stores.knows;
-    kind = stores.kind;
-    lines = stores.lines;
-    late = stores.late;
-    last = λ e. absurd (true≢false e);
-    in_tree = λ e. absurd (true≢false e);
-    falls = λ e. falls;
-    finished = stores.finished;
-  }
-
   -- a walk over the tree begins
   pub begun_stored : (walk.failed || walk.walk.failed) ≡ false → ComesNext problem s.last aim.range
       → (now : Walk) (sender : Option ℕ) → IsWalk problem now → way_of problem now ≡ start → now.aim ≡ aim

@@ -79,10 +79,10 @@ module _ (problem : Parts) (rows : List MatrixRow) (before after : CertWalk) (s 
 -- the load is that of the rows
 load_same : (problem : Parts) (rows : List MatrixRow) (a b : Option Placing) → IsPlaced problem rows a
     → IsPlaced problem rows b → load_in a ≡ load_in b
-load_same problem rows None None is at = refl
-load_same problem rows None (Some b) is at = absurd (is at.placed)
-load_same problem rows (Some a) None is at = absurd (at is.placed)
-load_same problem rows (Some a) (Some b) is at = ap Some (is.load ∙ sym at.load)
+load_same problem rows None None this other = refl
+load_same problem rows None (Some b) this other = absurd (this other.placed)
+load_same problem rows (Some a) None this other = absurd (other this.placed)
+load_same problem rows (Some a) (Some b) this other = ap Some (this.load ∙ sym other.load)
 
 -- what the events say
 said_subtree : (problem : Parts) (best : Option ℕ) (events : List Event) (tree : Marked)

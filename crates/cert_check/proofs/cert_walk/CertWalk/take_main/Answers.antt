@@ -10,7 +10,8 @@ use Rattle.cert_check.proofs.cert_walk.CertWalk.take_main.Goals as goal
 pub in_eighths-requires : goal.in_eighths-requires
 in_eighths-requires c =
     subst HasRoom (sym c.best.ensures)
-    (has_room c.args.problem.now c.requires.0 c.args.self.now.placing c.requires.2.knows.stands c.requires.2.knows.placed)
+    (has_room c.args.problem.now c.requires.0 c.args.self.now.placing c.requires.2.knows.stands
+    c.requires.2.knows.placed)
 
 pub returns : goal.returns
 returns c = record {
