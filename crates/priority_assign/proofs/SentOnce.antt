@@ -139,12 +139,12 @@ first_before_busy frames level blocked first time index named inside none fit =
 
 -- so the least one is the least after the first time that holds what the level asks for, and the blocking
 pub busy_from_first : (frames : List Timed) (level : List ℕ) (blocked first busy index : ℕ)
-    → AreNamed frames level → index < length level → IsLeast (IsFit frames level 0 0 1) first
+    → AreNamed frames level → index < length level → 1 ≤ first → NoneBefore frames level first
     → IsLeast (IsFit frames level blocked 0 (first + blocked)) busy
     → IsLeast (IsFit frames level blocked 0 1) busy
-busy_from_first frames level blocked first busy index named inside begins least =
-    least_from_later frames level blocked 0 1 (first + blocked) busy (omega (arith, begins.holds.begun))
-    (λ time fit. first_before_busy frames level blocked first time index named inside begins.least fit) least
+busy_from_first frames level blocked first busy index named inside some none least =
+    least_from_later frames level blocked 0 1 (first + blocked) busy (omega (arith, some))
+    (λ time fit. first_before_busy frames level blocked first time index named inside none fit) least
 
 -- what fits with the blocking fits without, and no sooner than that
 pub fit_without : (frames : List Timed) (level : List ℕ) (blocked time : ℕ)

@@ -1,11 +1,12 @@
 ghost use Rattle.std.specs.Prelude.{◌≡◌, ℕ, ◌+◌, ◌-◌, ◌<◌, ◌≤◌, ◌^◌, ◌↔◌, ◌⊎◌, false, length, IsTrue, IfSome, IfNone};
 ghost use Rattle.busy_period.specs.Stage.{AreNamed, own_number, higher_of};
 ghost use Rattle.busy_period.specs.Timed.{IsInRange};
+ghost use Rattle.busy_period.specs.Busy.{IsFit};
 ghost use Rattle.response_test.specs.Queueing.{IsBit};
 ghost use Rattle.response_test.specs.Frame.{PassesBlocked};
 ghost use Rattle.priority_assign.specs.Level.{moved_last, PassesAt, IsLastPassing};
 ghost use Rattle.priority_assign.specs.Once.{IsOnce};
-ghost use Rattle.priority_assign.specs.Times.{AreTimes, IsLateByLevel};
+ghost use Rattle.priority_assign.specs.Times.{NoneBefore, AreTimes, IsLateByLevel};
 
 use crate::in_time::last_in_time;
 use crate::once::{Once, busy_by, ends_with};
@@ -24,6 +25,32 @@ struct Times {
     first: u64,
     /// The busy period of the level.
     busy: u64,
+}
+
+/// Whether a frame that its level's first time is late for is late: it has one instance by its deadline,
+/// and is blocked for about as long as it is sent, or longer.
+fn is_late_by_first(own: Timed, blocked: u64, bit: u64) -> bool
+    requires blocked { blocked ≤ 100000000 }
+    requires bit { bit ≤ own.ticks }
+    requires range { IsInRange own }
+{
+    own.ticks <= blocked + bit && own.deadline <= own.period
+}
+
+/// The first time of at least a tick that holds all that the frames of a level ask for within it, where it
+/// is sought, and else a tick. None only where no time up to the limit does.
+fn first_of(frames: &[Timed], level: &[u32], sought: bool) -> Option<u64>
+    requires { AreNamed frames.now level.now }
+    ensures none_before { IfSome result (NoneBefore frames.now level.now) }
+    ensures some { IfSome result (λ first. 1 ≤ first) }
+    ensures within { IfSome result (λ first. first ≤ MAX_LIMIT) }
+    ensures none { IfNone result ((time : ℕ) → IsFit frames.now level.now 0 0 1 time → MAX_LIMIT < time) }
+{
+    if sought {
+        least_fit(frames, level, 0, 0, 1, MAX_LIMIT)
+    } else {
+        Some(1)
+    }
 }
 
 /// Whether a frame of a level may pass: not where it is late after one sending of each frame of the
@@ -125,7 +152,7 @@ pub(crate) fn choose_last(
         level[index..].rotate_left(1);
         return Some(index);
     }
-    let first = least_fit(frames, level, 0, 0, 1, MAX_LIMIT)?;
+    let first = first_of(frames, level, is_late_by_first(own, blocked, bit))?;
     let busy = least_fit(frames, level, blocked, 0, first + blocked, MAX_LIMIT)?;
     once.busy = Some(busy);
     if ends_with(own, Some(busy)) {

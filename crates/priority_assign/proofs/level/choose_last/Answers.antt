@@ -45,12 +45,12 @@ pub returns-in_err-busy-clause-none : goal.returns-in_err-busy-clause-none
 returns-in_err-busy-clause-none c =
     rw c.from_residual-in_err-busy.ensures (λ index inside passes.
     let fits = fits_if_passes c.args.frames.now c.args.level.now c.args.blocked c.args.bit index c.requires.named inside passes in
-    let first = (c.in_ok-first.ensures {u = tt}).least in
+    let first = c.in_ok-first.ensures {u = tt} in
     omega (
       arith,
       (c.in_err-busy.ensures {u = tt}).none fits.0
           (fit_after_first c.args.frames.now c.args.level.now c.args.blocked c.in_ok-first.first fits.0 index c.requires.named
-          inside first.least fits.1),
+          inside first.none_before fits.1),
       fits.2,
     ))
 
@@ -71,7 +71,7 @@ returns-then-ends_with-2-clause-chosen c =
       passes = passes_by_known c.args.frames.now c.args.level.now c.args.blocked c.args.bit c.in_ok-index.index (Some c.in_ok-busy.busy)
           c.requires.named c.requires.bit it.inside
           (busy_from_first c.args.frames.now c.args.level.now c.args.blocked c.in_ok-first.first c.in_ok-busy.busy c.in_ok-index.index
-          c.requires.named it.inside (c.in_ok-first.ensures {u = tt}).least (c.in_ok-busy.ensures {u = tt}).least).holds
+          c.requires.named it.inside (c.in_ok-first.ensures {u = tt}).some (c.in_ok-first.ensures {u = tt}).none_before (c.in_ok-busy.ensures {u = tt}).least).holds
           (c.ends_with-2.ensures.0 c.if-ends_with-2.true);
       none_later = λ later after inside passes. it.none_later later after inside
           (in_time_if_passes c.args.frames.now c.args.level.now c.args.blocked c.args.bit asked later c.requires.named c.requires.bit.some
@@ -93,10 +93,10 @@ choose_tested-requires-clause-times c =
     record {
       asked = omega (arith, c.requires.once.ticks);
       short = omega (arith, c.requires.once.few, c.requires.blocked);
-      first = first.least.least;
+      first = first.none_before;
       low = omega (arith, first.within);
       busy =
           busy_from_first c.args.frames.now c.args.level.now c.args.blocked c.in_ok-first.first c.in_ok-busy.busy c.in_ok-index.index
-          c.requires.named (c.in_ok-index.ensures {u = tt}).last.inside first.least busy.least;
+          c.requires.named (c.in_ok-index.ensures {u = tt}).last.inside first.some first.none_before busy.least;
       limit = omega (arith, busy.within);
     }
