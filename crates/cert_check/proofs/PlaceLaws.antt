@@ -1,10 +1,10 @@
 -- What a walk over a tree finds that it began at a partial grouping.
-use Rattle.std.proofs.Common.{◌≡◌, ℕ, Bool, true, false, List, [], ◌∷◌, map, Option, None, Some, refl, sym, ap, subst, ◌∙◌}
+use Rattle.std.proofs.Common.{◌≡◌, ℕ, List, refl, subst}
 use Rattle.pack_model.specs.Problem.{Parts}
 use Rattle.cert_text.specs.Trees.{Plain}
 use Rattle.grouping_tree.specs.Grouped.{items_in}
 use Rattle.grouping_tree.specs.Walk.{places_left}
-use Rattle.bandwidth_bound.specs.Trees.{Goal, TreeStands, open_places}
+use Rattle.bandwidth_bound.specs.Trees.{Goal}
 use Rattle.cert_check.specs.declared.walk.Aim.{Aim}
 use Rattle.cert_check.specs.declared.walk.Walk.{Walk}
 use Rattle.cert_check.specs.Nodes.{Takes, TakesTree, Way, nodes_of}

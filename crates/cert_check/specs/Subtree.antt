@@ -1,5 +1,5 @@
 -- What is found of a tree at a partial grouping.
-use Rattle.std.specs.Prelude.{◌≡◌, ⊤, ℕ, List, map, Option, None, Result, Ok, Err}
+use Rattle.std.specs.Prelude.{◌≡◌, ℕ, List, map, Option, None, Result, Ok, Err}
 use Rattle.pack_model.specs.Problem.{Parts}
 use Rattle.cert_text.specs.Trees.{Plain}
 use Rattle.bandwidth_bound.specs.Trees.{Goal, TreeStands, open_places}
