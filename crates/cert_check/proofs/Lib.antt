@@ -6,6 +6,7 @@ pub mod Judged
 pub mod KindLaws
 pub mod LemmaLaws
 pub mod Nexts
+pub mod PlaceLaws
 pub mod SaidLaws
 pub mod SaidTrees
 pub mod StoreLaws

@@ -11,9 +11,11 @@ use Rattle.std.specs.Prelude.{◌↔◌, not}
 use Rattle.pack_model.specs.Problem.{Parts}
 use Rattle.grouping_tree.specs.Grouped.{items_in, labels_of, range_of}
 use Rattle.grouping_tree.specs.Walk.{places_left}
+use Rattle.bandwidth_bound.specs.Trees.{Goal}
+use Rattle.cert_check.specs.declared.walk.Aim.{Aim}
 use Rattle.cert_check.specs.declared.walk.Walk.{Walk}
 use Rattle.cert_check.specs.Nodes.{Node, NodesStand, bounds_at, bounds_of, lowered, places_of, places_after_nodes}
-use Rattle.cert_check.specs.Walk.{IsWalk, StandsNext, TakesOne, goal_in, items_of, places_to_come}
+use Rattle.cert_check.specs.Walk.{IsWalk, Keeps, StandsNext, TakesOne, goal_in, goal_of, items_of, places_to_come, values_in}
 
 -- the range of a walk
 pub range_is : (problem : Parts) (walk : Walk) → IsWalk problem walk
@@ -47,6 +49,17 @@ some_options problem walk walks left =
         (omega (arith, left, ap length (range_is problem walk walks)))
         (small_range problem walk.partial walks.ready.belongs) none)
     by (option ∷ options) some = omega arith
+
+-- what the tree of a walk is to show stays the same
+pub same_goal : (problem : Parts) (before after : Walk) → Keeps before after → (P : Goal → Type 0)
+    → P (goal_in problem after) → P (goal_in problem before)
+same_goal problem before after keeps P holds =
+    subst (λ values. P (goal_of problem (values_in before.aim.range values) before.aim)) keeps.values
+    (subst (λ (aim : Aim). P (goal_of problem (values_in aim.range after.values.items) aim)) keeps.aim holds)
+
+pub keeps_on : (before between after : Walk) → Keeps before between → Keeps between after → Keeps before after
+keeps_on before between after first second =
+    record { aim = second.aim ∙ first.aim; values = second.values ∙ first.values }
 
 module _ (problem : Parts) (before after : Walk) (node : Node) where
   -- the places after the one of a walk

@@ -1,5 +1,5 @@
 -- What a walk over events stores after one more.
-use Rattle.std.proofs.Common.{◌≡◌, ◌<◌, ◌≤◌, ◌+◌, ◌-◌, ◌^◌, ◌⊎◌, inl, inr, ℕ, min, Bool, true, false, List, [], ◌∷◌, ◌++◌, length, get_or, Option, Some, None, refl, sym, ap, subst, ◌∙◌, append_assoc, arith, true≢false}
+use Rattle.std.proofs.Common.{◌≡◌, ◌<◌, ◌≤◌, ◌+◌, ◌-◌, ◌^◌, ◌⊎◌, inl, inr, ℕ, min, Bool, true, false, List, [], ◌∷◌, ◌++◌, length, get_or, Option, Some, None, refl, sym, ap, subst, ◌∙◌, arith, true≢false}
 use Rattle.std.specs.Prelude.{◌||◌, not}
 use Rattle.std.proofs.lemmas.Bool.{cases_lt}
 use Rattle.std.proofs.lemmas.List.{get_or_append_left, get_or_push, length_push}
@@ -16,7 +16,7 @@ use Rattle.cert_check.specs.declared.walk.Walk.{Walk}
 use Rattle.cert_check.specs.Nodes.{Node, Takes}
 use Rattle.cert_check.specs.Said.{Said, tree_begun, with_end, with_kind, with_line, with_node, with_nodes}
 use Rattle.cert_check.specs.Taken.{AllStandSaid, ComesNext, HasStored, IsInTree, IsLate, IsPlaced, IsPlacing, IsShowing, ShowFirst, ShowsAt, Stores, StoresMore, falls, goal_said}
-use Rattle.cert_check.specs.Walk.{IsWalk, Keeps, TakesOne, goal_of, start, values_in, way_of}
+use Rattle.cert_check.specs.Walk.{IsWalk, Keeps, TakesOne, goal_in, goal_of, start, values_in, way_of}
 use Rattle.cert_check.proofs.Walks.{stand_first, takes_append, takes_failed, takes_none}
 
 -- ---- step by step
@@ -43,17 +43,6 @@ stores_same {problem = problem} {after = after} same is step = record {
   stores = λ rows s stores. subst (Stores problem rows after) (is s) (step.stores rows s stores);
   placing = step.placing;
 }
-
--- nodes and further ones
-pub nodes_then : {problem : Parts} {before between after : CertWalk} (ns ms all : List Node) → ns ++ ms ≡ all
-    → StoresMore problem before between (with_nodes ns) → StoresMore problem between after (with_nodes ms)
-    → StoresMore problem before after (with_nodes all)
-nodes_then ns ms all is a b =
-    stores_same (with_nodes all)
-    (λ s i. record s {
-      tree = record s.tree { nodes = (append_assoc s.tree.nodes ns ms ∙ ap (λ xs. s.tree.nodes ++ xs) is) i };
-    })
-    (stores_then a b)
 
 -- ---- one more node
 
@@ -94,16 +83,16 @@ nodes_passed problem walk nodes fell = record {
       all.1,
     )
 
-module _ (problem : Parts) (walk : CertWalk) (node : Node) where
+module _ (problem : Parts) (walk : CertWalk) (nodes : List Node) where
   -- after a tree that doesn't stand
-  pub node_passed : walk.failed ≡ true → StoresMore problem walk walk (with_node node)
-  node_passed failed = nodes_passed problem walk (node ∷ []) (ap (λ b. b || walk.walk.failed) failed)
+  pub none_stored : walk.failed ≡ true → StoresMore problem walk walk (with_nodes nodes)
+  none_stored failed = nodes_passed problem walk nodes (ap (λ b. b || walk.walk.failed) failed)
 
   -- taken by the walk over the tree
-  pub node_stored : walk.failed ≡ false → (now : Walk) → IsWalk problem now → Keeps walk.walk now
-      → TakesOne problem walk.walk now node
-      → StoresMore problem walk (record walk { walk = now }) (with_node node)
-  node_stored stays now walks keeps takes = record {
+  pub nodes_stored : walk.failed ≡ false → (now : Walk) → IsWalk problem now → Keeps walk.walk now
+      → Takes (goal_in problem walk.walk) (way_of problem walk.walk) (way_of problem now) nodes
+      → StoresMore problem walk (record walk { walk = now }) (with_nodes nodes)
+  nodes_stored stays now walks keeps takes = record {
     stores = λ rows s stores. record {
       knows = stores.knows;
       kind = stores.kind;
@@ -118,7 +107,7 @@ module _ (problem : Parts) (walk : CertWalk) (node : Node) where
   }
     where
       in_tree_now : (s : Said) → IsInTree problem walk.walk s.values s.tree s.older
-          → IsInTree problem now s.values (record s.tree { nodes = s.tree.nodes ++ node ∷ [] }) s.older
+          → IsInTree problem now s.values (record s.tree { nodes = s.tree.nodes ++ nodes }) s.older
       in_tree_now s old = record {
         walks = walks;
         kept = keeps.values ∙ old.kept;
@@ -129,10 +118,21 @@ module _ (problem : Parts) (walk : CertWalk) (node : Node) where
         stand = old.stand;
         takes =
             takes_append (goal_said problem s.tree) start (way_of problem walk.walk) (way_of problem now)
-            s.tree.nodes (node ∷ []) old.takes
-            (subst (λ goal. Takes goal (way_of problem walk.walk) (way_of problem now) (node ∷ []))
+            s.tree.nodes nodes old.takes
+            (subst (λ goal. Takes goal (way_of problem walk.walk) (way_of problem now) nodes)
             (λ i. goal_of problem (old.used i) (old.aim i)) takes);
       }
+
+-- one node after a tree that doesn't stand
+pub node_passed : (problem : Parts) (walk : CertWalk) (node : Node) → walk.failed ≡ true
+    → StoresMore problem walk walk (with_node node)
+node_passed problem walk node = none_stored problem walk (node ∷ [])
+
+-- one that was taken
+pub node_stored : (problem : Parts) (walk : CertWalk) (node : Node) → walk.failed ≡ false → (now : Walk)
+    → IsWalk problem now → Keeps walk.walk now → TakesOne problem walk.walk now node
+    → StoresMore problem walk (record walk { walk = now }) (with_node node)
+node_stored problem walk node = nodes_stored problem walk (node ∷ [])
 
 -- ---- a tree ends, and another one begins
 

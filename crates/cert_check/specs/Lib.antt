@@ -4,6 +4,7 @@ pub mod Kinds
 pub mod Laws
 pub mod Nodes
 pub mod Said
+pub mod Subtree
 pub mod Taken
 pub mod Trees
 pub mod Walk

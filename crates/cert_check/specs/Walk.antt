@@ -70,6 +70,11 @@ way_of problem walk =
 abbrev pub start : Way
 start = record { failed = false; places = [] ∷ []; least = None }
 
+-- where it begins at a partial grouping of some items
+abbrev pub start_at : List Item → List ℕ → Way
+start_at items place =
+    record { failed = false; places = place ∷ places_left items 0 place; least = None }
+
 -- the walk went on from a place
 pub record Passes (problem : Parts) (before after : Walk) : Type 0 where
   pub failed : after.failed ≡ before.failed

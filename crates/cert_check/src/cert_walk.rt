@@ -5,37 +5,29 @@ ghost use Rattle.matrix_rows.specs.declared.matrix.MatrixRow.{MatrixRow};
 ghost use Rattle.cert_text.specs.declared.event.Event.{Event};
 ghost use Rattle.cert_text.specs.CertEvents.{cert_events};
 ghost use Rattle.cert_text.specs.Parts.{CertOf, CertParts, unmark_cert};
+ghost use Rattle.cert_text.specs.PlainTree.{plain_of};
 ghost use Rattle.cert_text.specs.Trees.{Marked};
 ghost use Rattle.bandwidth_bound.specs.Follows.{Holds};
 ghost use Rattle.bandwidth_bound.specs.Goals.{eighths};
 ghost use Rattle.bandwidth_bound.specs.Rule.{MatrixOfKind, TimingOfKind};
 ghost use Rattle.cert_check.specs.Accept.{IsFound, judged_of};
-ghost use Rattle.cert_check.specs.Nodes.{bound_leaf, fail_leaf, inner_node, open_leaf};
-ghost use Rattle.cert_check.specs.Said.{Said, and_said, lemma_begun, main_begun, with_end, with_kind, with_line, with_node};
+ghost use Rattle.cert_check.specs.Nodes.{bound_leaf, fail_leaf, inner_node, nodes_of, open_leaf};
+ghost use Rattle.cert_check.specs.Said.{Said, and_said, lemma_begun, main_begun, with_end, with_kind, with_line, with_node, with_nodes};
 ghost use Rattle.cert_check.specs.Trees.{HasRoom, IsAnswer, lower_with};
 ghost use Rattle.cert_check.specs.Taken.{HasOwnParts, IsClosed, IsOpen, IsWhole, ComesNext, HasStored, HasTaken, IsShowing, Stores, StoresMore, Taken, load_in};
 
+use crate::aims::in_eighths;
 use crate::fault::CheckFault;
 use crate::kinds::{is_kind_placed, may_leave};
 use crate::placing::{Placing, place};
+use crate::tree::take_tree;
 use crate::walk::{Aim, Walk};
 use bandwidth_bound::Verdict;
-use cert_text::{Event, FrameLine, Kind};
+use cert_text::{Event, FrameLine, Kind, Tree};
 use matrix_text::Matrix;
 use pack_model::{Memory, Problem};
 use response_test::Evidence;
 use std::alloc::Global;
-
-/// A load in eighths.
-fn in_eighths(best: Option<u128>) -> Option<u128>
-    requires { HasRoom best }
-    ensures { result ≡ eighths best }
-{
-    match best {
-        None => None,
-        Some(load) => Some(8 * load),
-    }
-}
 
 /// The lesser of a bound in eighths and of the load of the best, if there is one.
 fn lower_with(best: Option<u128>, least: u128) -> u128
@@ -237,6 +229,16 @@ impl CertWalk {
     {
         if !self.failed {
             self.walk.take_fail(problem, named);
+        }
+    }
+
+    /// Takes the nodes of a tree.
+    pub(crate) fn take_tree(&mut self, problem: &Problem, tree: &Tree)
+        requires { HasStored problem.now self.old }
+        ensures { StoresMore problem.now self.old self.new (with_nodes (nodes_of (plain_of tree.now))) }
+    {
+        if !self.failed {
+            take_tree(&mut self.walk, problem, tree);
         }
     }
 

@@ -9,7 +9,6 @@ ghost use Rattle.cert_check.specs.Taken.{HasStored, StoresMore, load_in};
 
 use crate::cert_walk::CertWalk;
 use crate::fault::CheckFault;
-use crate::tree::take_tree;
 use bandwidth_bound::Verdict;
 use cert_text::{Cert, FrameLine, Lemma, Tree};
 use matrix_text::Matrix;
@@ -33,7 +32,7 @@ fn take_lemmas(walk: &mut CertWalk, problem: &Problem, lemmas: &[Lemma])
 {
     for lemma in lemmas {
         walk.take_lemma(problem, lemma.sender, lemma.value);
-        take_tree(walk, problem, &lemma.tree);
+        walk.take_tree(problem, &lemma.tree);
     }
 }
 
@@ -45,7 +44,7 @@ fn take_main_tree(walk: &mut CertWalk, problem: &Problem, tree: Option<&Tree>)
 {
     if let Some(tree) = tree {
         walk.take_main(problem);
-        take_tree(walk, problem, tree);
+        walk.take_tree(problem, tree);
     }
 }
 

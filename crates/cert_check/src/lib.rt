@@ -6,6 +6,7 @@
 //! A certificate is judged by [`CertWalk`] alone, event by event; [`check_cert`] and [`check_feed`] go by it.
 #![tactic(auto)]
 
+mod aims;
 mod cert_walk;
 mod check;
 mod fault;
@@ -13,15 +14,19 @@ mod kinds;
 mod laws;
 mod one_pass;
 mod placing;
+mod subtree;
 mod tree;
 mod walk;
 
+pub use aims::{lemma_aim, main_aim};
 pub use bandwidth_bound::Verdict;
 pub use cert_walk::CertWalk;
 pub use check::check_cert;
 pub use fault::CheckFault;
 pub use laws::{accepted_holds, subtree_taken};
 pub use one_pass::{FeedCheck, check_feed};
+pub use subtree::SubtreeJudge;
+pub use walk::Aim;
 
 #[cfg(test)]
 mod tests;

@@ -2,10 +2,11 @@
 ghost use Rattle.std.specs.Prelude.{◌≡◌, ◌<◌, ◌∷◌, [], ℕ, ◌↔◌, IfOk, IfSome, IsTrue, None, Some, length, replicate, slice_set};
 ghost use Rattle.bandwidth_bound.specs.Goals.{ClassesFail};
 ghost use Rattle.bandwidth_bound.specs.Prices.{lower8_of};
-ghost use Rattle.grouping_tree.specs.Grouped.{labels_of};
+ghost use Rattle.grouping_tree.specs.Grouped.{Belongs, items_in, labels_of, range_of, room_of, sender_of};
+ghost use Rattle.grouping_tree.specs.Partial.{IsPartial};
 ghost use Rattle.pack_model.specs.Problem.{Parts};
 ghost use Rattle.cert_check.specs.Nodes.{IsSplit, lowered, inner_node, bound_leaf, open_leaf, fail_leaf};
-ghost use Rattle.cert_check.specs.Walk.{HasPlace, IsReady, IsWalk, Keeps, Passes, StandsNext, TakesOne, items_of, start, values_in, values_used, way_of};
+ghost use Rattle.cert_check.specs.Walk.{HasPlace, IsReady, IsWalk, Keeps, Passes, StandsNext, TakesOne, items_of, start, start_at, values_in, values_used, way_of};
 
 use bandwidth_bound::{Floors, refutes};
 use grouping_tree::Partial;
@@ -43,6 +44,22 @@ fn values_in(range: Option<u32>, values: &[u128]) -> &[u128]
     match range {
         None => values,
         Some(_) => &values[..0],
+    }
+}
+
+/// Gives the first items the labels of a partial grouping, where none has a label yet.
+fn put_each(partial: &mut Partial, problem: &Problem, labels: &[u32])
+    requires belongs { Belongs problem.now partial.old }
+    requires none { labels_of partial.old ≡ [] }
+    requires legal { IsPartial (range_of problem.now partial.old) labels.now }
+    ensures belongs { Belongs problem.now partial.new }
+    ensures labels { labels_of partial.new ≡ labels.now }
+    ensures range { range_of problem.now partial.new ≡ range_of problem.now partial.old }
+    ensures sender { sender_of partial.new ≡ sender_of partial.old }
+    ensures room { room_of partial.new ≡ room_of partial.old }
+{
+    for &label in labels {
+        partial.put(problem, label);
     }
 }
 
@@ -98,7 +115,21 @@ impl Walk {
         ensures aim { self.new.aim ≡ aim }
         ensures values { self.new.values.items ≡ self.old.values.items }
     {
+        self.begin_at(problem, aim, &[]);
+    }
+
+    /// Begins a tree at a partial grouping of its range, as `begin` does at the empty one. It takes no memory.
+    pub fn begin_at(&mut self, problem: &Problem, aim: Aim, place: &[u32])
+        requires ready { IsReady problem.now self.old }
+        requires range { IfSome aim.range (λ sender. sender < length problem.now.senders) }
+        requires legal { IsPartial (items_in problem.now.items aim.range) place.now }
+        ensures walks { IsWalk problem.now self.new }
+        ensures begins { way_of problem.now self.new ≡ start_at (items_in problem.now.items aim.range) place.now }
+        ensures aim { self.new.aim ≡ aim }
+        ensures values { self.new.values.items ≡ self.old.values.items }
+    {
         self.partial.restart(problem, aim.range);
+        put_each(&mut self.partial, problem, place);
         let values = values_in(aim.range, self.values.as_slice());
         self.floors.fill(problem, aim.range, values);
         self.aim = aim;
@@ -116,6 +147,16 @@ impl Walk {
         ensures rest { self.new ≡ record self.old { values = self.new.values } }
     {
         self.values[sender as usize] = value;
+    }
+
+    /// Keeps the values of the lemmas of all senders, in eighths of ticks a common period, 0 where there is
+    /// none, for the trees that begin from now on.
+    pub fn keep_values(&mut self, values: &[u128])
+        requires { length values.now ≡ length self.old.values.items }
+        ensures ready { (problem : Parts) → IsReady problem self.old → IsReady problem self.new }
+        ensures values { self.new.values.items ≡ values.now }
+    {
+        self.values.copy_from_slice(values);
     }
 
     /// Whether some node didn't stand.

@@ -11,6 +11,6 @@ take_tree-requires c = still c.take_main.ensures c.requires
 
 pub returns-in-Some : goal.returns-in-Some
 returns-in-Some c =
-    subst (λ t. StoresMore c.args.problem.now c.args.walk.now c.take_tree.new.walk
+    subst (λ t. StoresMore c.args.problem.now c.args.walk.now c.take_tree.new.self
     (main_said (load_in c.args.walk.now.placing) (option_map plain_of (option_copied t)))) (sym c.in-Some.is)
     (stores_then c.take_main.ensures c.take_tree.ensures)

@@ -1,0 +1,3 @@
+pub mod Aims
+pub mod Laws
+pub mod Shards
