@@ -155,6 +155,7 @@ impl Walk {
         requires { length values.now ≡ length self.old.values.items }
         ensures ready { (problem : Parts) → IsReady problem self.old → IsReady problem self.new }
         ensures values { self.new.values.items ≡ values.now }
+        ensures rest { self.new ≡ record self.old { values = self.new.values } }
     {
         self.values.copy_from_slice(values);
     }

@@ -12,3 +12,6 @@ mod shard;
 pub use checking::check_shards;
 pub use laws::answer_is_one;
 pub use shard::{Goal, Joined, Shard};
+
+#[cfg(test)]
+mod tests;
