@@ -16,6 +16,7 @@ use std::process::Abort;
 use std::sync::atomic::{AtomicU64, Ordering};
 
 /// A gate that adds up the numbers of the shards that entered.
+#[derive(Drop)]
 struct Sum {
     numbers: AtomicU64,
 }
