@@ -1,5 +1,6 @@
 -- Laws of the instances and ticks that one frame asks for.
-use Rattle.std.proofs.Common.{ℕ, ◌+◌, ◌*◌, ◌<◌, ◌≤◌, ◌^◌, zero, suc, arith}
+use Rattle.std.proofs.Common.{◌≡◌, ℕ, ◌+◌, ◌*◌, ◌/◌, ◌<◌, ◌≤◌, ◌^◌, zero, suc, inl, inr, arith}
+use Rattle.std.proofs.lemmas.Bool.{cases_lt}
 use Rattle.std.proofs.Math.Nat.{mul-le-mul, mul-le-mul_left, mul-le-mul_right, lt_of_mul-lt-mul_right, div-zero, mod-zero}
 use Rattle.std.proofs.lemmas.Grind.{div_ceil_times}
 use Rattle.std.specs.Int.{div_ceil}
@@ -52,3 +53,21 @@ quotient-le a y q some le =
     let below : div_ceil a y * y < (q + 1) * y = omega arith in
     let lt : div_ceil a y < q + 1 = lt_of_mul-lt-mul_right y below in
     omega arith
+
+-- a product with an inverse that was rounded down gives no more than a quotient rounded up
+pub inverse-le : (a' inverse' a inverse y whole : ℕ) → a' ≡ a → inverse' ≡ inverse → 1 ≤ a → 1 ≤ y
+    → inverse * y < whole
+    → a' * inverse' / whole + 1 ≤ div_ceil a y
+inverse-le a' inverse' a inverse y whole same same' some some' small =
+    let q : ℕ = a * inverse / whole in
+    let quotient : a' * inverse' / whole ≡ q = cc in
+    let down : whole * q ≤ a * inverse = omega arith in
+    let over : whole * q * y ≤ a * inverse * y = mul-le-mul_right y down in
+    let short : a * (inverse * y + 1) ≤ a * whole = mul-le-mul_left a (omega arith) in
+    let less : q * y * whole < a * whole = omega arith in
+    let fewer : q * y < a = lt_of_mul-lt-mul_right whole less in
+    let up : a ≤ div_ceil a y * y = (div_ceil_times a y some').0 in
+    elim (cases_lt q (div_ceil a y)) [
+      | inl below ↦ omega arith
+      | inr above ↦ absurd (omega (arith, mul-le-mul_right y above))
+    ]

@@ -5,3 +5,4 @@ pub mod Harder
 pub mod Least
 pub mod Busy
 pub mod Checked
+pub mod Quick

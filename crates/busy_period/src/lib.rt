@@ -14,6 +14,7 @@ mod leap;
 mod level;
 mod line;
 mod period;
+mod quick;
 #[cfg(test)]
 mod tests;
 mod timed;

@@ -6,11 +6,12 @@ ghost use Rattle.busy_period.specs.Busy.{IsFit, FrameBusy, FrameLeastBusy};
 use crate::leap::leap_from;
 use crate::level::{blocking, demand, work};
 use crate::line::climb_start;
+use crate::quick::quick_climb;
 use crate::timed::Timed;
 
-/// After how many steps of a climb the next one is a leap: a leap costs about ten steps, and most climbs end
-/// before.
-const LEAP_EVERY: u32 = 16;
+/// From which of its steps on a climb is long: each of these is a leap, and quick steps follow it. Most climbs
+/// end before.
+const LONG_FROM: u32 = 16;
 
 /// In how many rounds a leap is lengthened.
 const LEAP_ROUNDS: u32 = 4;
@@ -47,17 +48,16 @@ pub fn least_fit(
         if asked > u128::from(limit) {
             return None;
         }
-        steps = steps.wrapping_add(1);
-        let rounds = if steps % LEAP_EVERY == 0 {
-            LEAP_ROUNDS
-        } else {
-            0
-        };
+        steps = steps.saturating_add(1);
+        let rounds = if steps < LONG_FROM { 0 } else { LEAP_ROUNDS };
         let leap = leap_from(frames, numbers, time + ahead, asked as u64 - time, rounds)?;
         if leap > u128::from(limit - time) {
             return None;
         }
         time += leap as u64;
+        if rounds > 0 {
+            time = quick_climb(frames, numbers, base, ahead, time, limit);
+        }
     }
     None
 }

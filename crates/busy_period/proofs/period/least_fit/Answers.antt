@@ -35,3 +35,19 @@ loop-time-preserved c =
           fit-after c.args.frames.now c.args.numbers.now c.args.base c.args.ahead c.args.from c.loop-time.time _
           c.in_ok-leap.leap time (omega arith) ensured.some fit (c.loop-time.invariant.below time fit);
     }
+
+pub loop-time-preserved-then-rounds-gt0 : goal.loop-time-preserved-then-rounds-gt0
+loop-time-preserved-then-rounds-gt0 c =
+    let ensured = c.in_ok-leap.ensures {u = tt} in
+    record {
+      begun = omega arith;
+      below = λ time fit.
+          c.quick_climb-time.ensures.below time
+          (record {
+            begun =
+                fit-after c.args.frames.now c.args.numbers.now c.args.base c.args.ahead c.args.from
+                c.loop-time.time _ c.in_ok-leap.leap time (omega arith) ensured.some fit
+                (c.loop-time.invariant.below time fit);
+            done = fit.done;
+          });
+    }
