@@ -58,6 +58,7 @@ fn quick_work(frames: &[Timed], numbers: &[u32], inverses: &[u64], time: u64) ->
 }
 
 /// A time from `time` to `limit` that no fit from `time` on is before: it climbs by quick steps.
+#[inline(never)]
 pub(crate) fn quick_climb(
     frames: &[Timed],
     numbers: &[u32],
