@@ -1,5 +1,5 @@
 -- What is kept of a class: the project's own.
-use Rattle.std.specs.Prelude.{ℕ, Bool, ◌≡◌, ◌==◌, ◌+◌, ◌*◌, ◌/◌, ◌&&◌, min, List, AllPairs}
+use Rattle.std.specs.Prelude.{ℕ, ◌≡◌, ◌==◌, ◌+◌, ◌*◌, ◌/◌, ◌&&◌, min, List, AllPairs}
 use Rattle.pack_model.specs.declared.item.Item.{Item}
 use Rattle.pack_model.specs.Problem.{Parts}
 use Rattle.container_pdu.specs.Bytes.{header_bytes}

@@ -1,5 +1,5 @@
 -- Running sums of a partial grouping of a range of items: the project's own.
-use Rattle.std.specs.Prelude.{ℕ, ◌≡◌, ◌<◌, ◌≤◌, ◌+◌, ◌-◌, ◌/◌, unwrap_or, List, [], ◌∷◌, length, take, drop, slice_index, slice_index_or, Option, None, Some}
+use Rattle.std.specs.Prelude.{ℕ, ◌≡◌, ◌<◌, ◌≤◌, ◌+◌, ◌-◌, unwrap_or, List, [], ◌∷◌, length, take, drop, slice_index, slice_index_or, Option, None, Some}
 use Rattle.pack_model.specs.declared.item.Item.{Item}
 use Rattle.pack_model.specs.Problem.{Parts, IsProblem, sent_by}
 use Rattle.class_frame.specs.Grouping.{class_of, classes_of}

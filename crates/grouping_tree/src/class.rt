@@ -145,7 +145,13 @@ impl Class {
     }
 
     /// Of the items and one more, where they take `fill` together and their frame is so long.
-    pub(crate) fn join(&self, next: &Class, fill: Fill, long: FrameLength, network: &Network) -> Class
+    pub(crate) fn join(
+        &self,
+        next: &Class,
+        fill: Fill,
+        long: FrameLength,
+        network: &Network,
+    ) -> Class
         requires stands { NetworkStands network.now }
         requires size { long.size ≤ 64 }
         ensures { (problem : Parts) (items : List Item) (item : Item) → IsProblem problem

@@ -1,5 +1,4 @@
 use Rattle.std.proofs.Common.{◌≡◌, ◌-◌, ◌*◌, ◌/◌, ◌∷◌, [], unwrap_or, sym, ap, ◌∙◌, arith}
-use Rattle.busy_period.specs.declared.timed.Timed.{Timed}
 use Rattle.pack_model.specs.declared.network.Network.{Network}
 use Rattle.class_frame.specs.Frame.{size_of_items, weight_of_items}
 use Rattle.class_frame.specs.Sums.{IsOn}

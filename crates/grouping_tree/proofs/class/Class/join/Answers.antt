@@ -1,7 +1,6 @@
 use Rattle.std.proofs.Common.{◌≡◌, ◌-◌, ◌*◌, ◌++◌, ◌∷◌, [], max, min, sym, ap, ◌∙◌}
-use Rattle.busy_period.specs.declared.timed.Timed.{Timed}
 use Rattle.pack_model.specs.declared.network.Network.{Network}
-use Rattle.class_frame.specs.Frame.{deadline_of_items, jitter_of_items, period_of_items, weight_of_items}
+use Rattle.class_frame.specs.Frame.{weight_of_items}
 use Rattle.grouping_tree.specs.Class.{IsFill}
 use Rattle.grouping_tree.specs.declared.class.Fill.{Fill}
 use Rattle.grouping_tree.proofs.Fills.{deadline_put, fill_put, jitter_put, period_put, share_put}

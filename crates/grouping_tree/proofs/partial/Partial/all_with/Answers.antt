@@ -41,8 +41,14 @@ overflow_add-result c =
     let (problem, b, next, legal, own) = c.requires in
     let p = c.args.self.now in
     let loads = load_put problem p c.args.label c.args.next.now b next (put_room problem p c.args.label b legal).1 in
-    omega (arith, loads.1, loads.2, b.load, c.load-2.ensures problem
-    (class_of c.args.label (labels_of p ++ c.args.label ∷ []) (range_of problem p)) own)
+    omega (
+      arith,
+      loads.1,
+      loads.2,
+      b.load,
+      c.load-2.ensures problem
+          (class_of c.args.label (labels_of p ++ c.args.label ∷ []) (range_of problem p)) own,
+    )
 
 pub overflow_add-result-2 : goal.overflow_add-result-2
 overflow_add-result-2 c =
@@ -51,8 +57,14 @@ overflow_add-result-2 c =
     let slacks =
     slack_put problem p c.args.label c.args.next.now b next (put_room problem p c.args.label b legal).1
     (legal.classes c.args.label) in
-    omega (arith, slacks.1, slacks.2, c.slacks_beside.ensures problem b next, c.slack-2.ensures problem
-    (class_of c.args.label (labels_of p ++ c.args.label ∷ []) (range_of problem p)) own)
+    omega (
+      arith,
+      slacks.1,
+      slacks.2,
+      c.slacks_beside.ensures problem b next,
+      c.slack-2.ensures problem
+          (class_of c.args.label (labels_of p ++ c.args.label ∷ []) (range_of problem p)) own,
+    )
 
 pub returns-clause-load : goal.returns-clause-load
 returns-clause-load c = λ problem b next legal own.

@@ -1,4 +1,4 @@
-use Rattle.std.proofs.Common.{◌≡◌, ◌++◌, ◌∷◌, [], ap, ◌∙◌, arith}
+use Rattle.std.proofs.Common.{◌++◌, ◌∷◌, [], ap, ◌∙◌, arith}
 use Rattle.class_frame.specs.Frame.{bytes_of_items}
 use Rattle.class_frame.specs.Grouping.{class_of}
 use Rattle.grouping_tree.specs.Grouped.{IsUsed, labels_of, range_of}
