@@ -1,8 +1,9 @@
 -- What items take in one frame, by what is kept of their class, and a class with one item more.
-use Rattle.std.proofs.Common.{◌≡◌, ℕ, ◌+◌, ◌*◌, ◌/◌, ◌<◌, ◌≤◌, ◌⊎◌, inl, inr, min, max, true, false, if◌then◌else◌, List, [], ◌∷◌, ◌++◌, length, All, sum_by, refl, sym, ap, ◌∙◌, arith}
+use Rattle.std.proofs.Common.{◌≡◌, ℕ, ◌+◌, ◌*◌, ◌/◌, ◌<◌, ◌≤◌, ◌⊎◌, inl, inr, min, max, true, false, if◌then◌else◌, List, [], ◌∷◌, ◌++◌, length, All, sum_by, nat_le, refl, sym, ap, ◌∙◌, arith}
 use Rattle.std.specs.Int.{div_ceil}
 use Rattle.std.proofs.Math.Nat.{mul-le-mul, mul-le-mul_left}
-use Rattle.std.proofs.lemmas.Bool.{cases_lt}
+use Rattle.std.proofs.lemmas.Bool.{cases_lt, le-leb, lt-leb}
+use Rattle.std.proofs.lemmas.Grind.{div_ceil_times}
 use Rattle.std.proofs.lemmas.List.Elements.{All-head, All-tail}
 use Rattle.std.proofs.lemmas.List.Sums.{sum_by-cons}
 use Rattle.pack_model.specs.declared.item.Item.{Item}
@@ -79,6 +80,49 @@ fill_pdus problem items fill header is kind some same = by (count_from_kind item
         ap (λ (f : Fill). f.weight) is ∙ weight_pdus items (all_from_count items all) in
         let bytes : fill.weight / 8 ≡ sum_by bytes_of_item items = omega (arith, weight) in
         (λ i. many i * same i + bytes i) ∙ sym (bytes_pdus items (omega (arith, many, some)))
+
+-- items of more than 512 bits take more than 64 bytes
+pub fill_heavy : (problem : Parts) (items : List Item) (fill : Fill) → IsFill problem items fill → AreOneKind items
+    → 512 < fill.weight → nat_le (bytes_of_items items) 64 ≡ false
+fill_heavy problem items fill is kind heavy = lt-leb (bytes_of_items items) 64 (by (count_from_kind items kind))
+  where
+    many : fill.pdus ≡ length (ids_of items)
+    many = ap (λ (f : Fill). f.pdus) is
+
+    by : (length (ids_of items) ≡ 0) ⊎ (length (ids_of items) ≡ length items) → 64 < bytes_of_items items
+    by (inl none) =
+        omega (
+          arith,
+          fill_free problem items fill is (many ∙ none),
+          div_ceil_times fill.weight 8 (omega arith),
+          heavy,
+        )
+    by (inr all) =
+        let weight : fill.weight ≡ 8 * sum_by bytes_of_item items =
+        ap (λ (f : Fill). f.weight) is ∙ weight_pdus items (all_from_count items all) in
+        elim (cases_lt 0 fill.pdus) [
+          | inl some ↦
+              omega (
+                arith,
+                fill_pdus problem items fill (header_bytes_of items) is kind some refl,
+                weight,
+                heavy,
+              )
+          | inr none ↦
+              omega (
+                arith,
+                fill_free problem items fill is (omega (arith, none)),
+                div_ceil_times fill.weight 8 (omega arith),
+                heavy,
+              )
+        ]
+
+-- and free ones of no more bits at most as many
+pub fill_light : (problem : Parts) (items : List Item) (fill : Fill) → IsFill problem items fill → fill.pdus ≡ 0
+    → fill.weight ≤ 512 → nat_le (bytes_of_items items) 64 ≡ true
+fill_light problem items fill is none light =
+    le-leb (bytes_of_items items) 64
+    (omega (arith, fill_free problem items fill is none, div_ceil_times fill.weight 8 (omega arith), light))
 
 -- ---- the times of a class with one item more
 

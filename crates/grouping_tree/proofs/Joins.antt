@@ -1,7 +1,7 @@
 -- When an item may join a class that has items, by what is kept of both.
 use Rattle.std.proofs.Common.{◌≡◌, zero, suc, ◌==◌, ◌≤◌, ◌⊎◌, inl, inr, ◌&&◌, Bool, true, false, not, List, [], ◌∷◌, ◌++◌, length, map, nat_eq, nat_le, All, AllPairs, refl, sym, ap, ◌∙◌, arith}
 use Rattle.std.specs.List.{list_all}
-use Rattle.std.proofs.lemmas.Bool.{and_parts, eq-eqb, eqb-true, ne_eqb}
+use Rattle.std.proofs.lemmas.Bool.{and_parts, cases_eq, eq-eqb, eqb-true, ne_eqb}
 use Rattle.std.proofs.lemmas.List.Elements.{All-map}
 use Rattle.std.proofs.lemmas.List.Folds.{list_all-append}
 use Rattle.pack_model.specs.declared.item.Item.{Item}
@@ -15,6 +15,23 @@ use Rattle.grouping_tree.specs.Class.{AreAlike, AreOneKind, IsFill}
 use Rattle.grouping_tree.specs.Partial.{alike, is_class, same_kind}
 use Rattle.grouping_tree.specs.declared.class.Fill.{Fill}
 use Rattle.grouping_tree.proofs.Options.{alike-kind, both, is_class-from, same_kind-from, same_kind-to}
+
+-- two fills are alike or not
+pub alike_or_not : (a b : Fill) → AreAlike a b ⊎ (AreAlike a b → ⊥)
+alike_or_not a b = by (cases_eq a.sender b.sender)
+  where
+    kinds : (x y : Bool) → (x ≡ y) ⊎ (x ≡ y → ⊥)
+    kinds true true = inl refl
+    kinds true false = inr (λ e. absurd cc)
+    kinds false true = inr (λ e. absurd cc)
+    kinds false false = inl refl
+
+    by : (a.sender ≡ b.sender) ⊎ (a.sender ≡ b.sender → ⊥) → AreAlike a b ⊎ (AreAlike a b → ⊥)
+    by (inr apart) = inr (λ are. apart are.sender)
+    by (inl same) = elim (kinds (a.pdus == 0) (b.pdus == 0)) [
+      | inl kind ↦ inl (record { sender = same; kind = kind })
+      | inr apart ↦ inr (λ are. apart are.kind)
+    ]
 
 -- whether the first item is an I-PDU says whether any is
 kind_is : (problem : Parts) (x : Item) (xs : List Item) (fill : Fill) → IsFill problem (x ∷ xs) fill

@@ -1,5 +1,5 @@
 //! What is kept of a class.
-ghost use Rattle.std.specs.Prelude.{◌≡◌, ◌≤◌, ◌<◌, ◌+◌, ◌-◌, ◌*◌, ◌++◌, ◌∷◌, [], List, IsTrue, ◌↔◌, All, length};
+ghost use Rattle.std.specs.Prelude.{◌≡◌, ◌≤◌, ◌<◌, ◌+◌, ◌-◌, ◌*◌, ◌++◌, ◌∷◌, [], List, IsTrue, ◌↔◌, nat_le, All, length};
 ghost use Rattle.busy_period.specs.declared.timed.Timed.{Timed};
 ghost use Rattle.pack_model.specs.Network.{NetworkStands};
 ghost use Rattle.pack_model.specs.Problem.{Parts, IsProblem};
@@ -62,6 +62,28 @@ impl Fill {
         ensures { IsTrue result ↔ AreAlike self other }
     {
         self.sender == other.sender && (self.pdus == 0) == (other.pdus == 0)
+    }
+
+    /// Whether the items of a class and one more can be in one frame. Items of more than 512 bits never fit, and
+    /// free ones of no more always do.
+    pub(crate) fn may_join(self, other: Fill) -> bool
+        requires pdus { self.pdus + other.pdus ≤ 128 }
+        requires weight { self.weight + other.weight ≤ 65536 }
+        ensures alike { IsTrue result → AreAlike self other }
+        ensures fits { (problem : Parts) (items : List Item) → AreAlike self other
+            → IsFill problem items (together self other) → AreOneKind items
+            → result ≡ nat_le (bytes_of_items items) 64 }
+    {
+        if self.sender != other.sender {
+            return false;
+        }
+        if self.weight + other.weight > 512 {
+            return false;
+        }
+        if self.pdus + other.pdus == 0 {
+            return true;
+        }
+        self.is_like(other) && self.join(other).frame_bytes() <= 64
     }
 
     /// The header before each of the I-PDUs in one frame, in bytes.

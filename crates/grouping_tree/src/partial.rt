@@ -273,8 +273,7 @@ impl Partial {
         ensures { (problem : Parts) → Belongs problem self.now → IsNext problem self.now next.now
             → result ≡ keeps_legal (range_of problem self.now) (labels_of self.now) label }
     {
-        let fill = self.kept_of(label).own.fill;
-        fill.is_like(next.fill) && fill.join(next.fill).frame_bytes() <= 64
+        self.kept_of(label).own.fill.may_join(next.fill)
     }
 
     /// What is kept of the class of a label.
