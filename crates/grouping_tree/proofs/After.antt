@@ -1,5 +1,5 @@
 -- What is kept of a class once the next item is in it, and the classes of a partial grouping as frames.
-use Rattle.std.proofs.Common.{◌≡◌, ◌<◌, ◌≤◌, ◌+◌, ◌*◌, ◌/◌, ◌%◌, ℕ, zero, suc, [], ◌∷◌, ◌++◌, List, length, map, take, get_or, All, refl, sym, ap, subst, ◌∙◌, arith, length-append}
+use Rattle.std.proofs.Common.{◌≡◌, ◌<◌, ◌≤◌, ◌+◌, ◌%◌, ℕ, zero, suc, [], ◌∷◌, ◌++◌, List, length, map, take, get_or, All, refl, sym, ap, subst, ◌∙◌, arith, length-append}
 use Rattle.std.specs.List.{range_with_len}
 use Rattle.std.proofs.lemmas.List.Elements.{All-map}
 use Rattle.std.proofs.lemmas.List.FromFn.{get_or-range_with_len, length-map-range_with_len, length-range_with_len}
@@ -13,20 +13,22 @@ use Rattle.pack_model.proofs.Periods.{problem_period}
 use Rattle.response_test.specs.Queueing.{IsBit}
 use Rattle.response_test.specs.Refuted.{IsCommon}
 use Rattle.class_frame.specs.Classes.{frames_of_classes}
-use Rattle.class_frame.specs.Frame.{bytes_of_items, period_of_items, timed_of_items}
+use Rattle.class_frame.specs.Frame.{bytes_of_items, timed_of_items}
 use Rattle.class_frame.specs.Grouping.{class_of, classes_of}
 use Rattle.class_frame.specs.Laws.{HasSignal}
-use Rattle.class_frame.specs.declared.sums.Sums.{Sums}
-use Rattle.class_frame.specs.Sums.{AreSums}
 use Rattle.class_frame.proofs.Harder.{period_divides}
-use Rattle.class_frame.proofs.Ranges.{AreTimes, bit_within, frame_in_range, times_of_sums}
-use Rattle.grouping_tree.specs.Grouped.{Belongs, IsFrameLength, IsKept, items_with, labels_of, range_of}
+use Rattle.class_frame.proofs.Ranges.{bit_within, frame_in_range}
+use Rattle.grouping_tree.specs.Grouped.{Belongs, IsFrameLength, IsNext, IsUsed, items_with, labels_of, range_of}
 use Rattle.grouping_tree.specs.Partial.{IsPartial}
 use Rattle.grouping_tree.specs.declared.frame_length.FrameLength.{FrameLength}
-use Rattle.grouping_tree.specs.declared.kept.State.{State}
 use Rattle.grouping_tree.specs.declared.partial.Partial.{Partial}
-use Rattle.grouping_tree.proofs.Steps.{class_next, element}
-use Rattle.grouping_tree.proofs.Used.{class_signal, classes_few, few, used_signal}
+use Rattle.grouping_tree.specs.Class.{IsClass, together}
+use Rattle.grouping_tree.specs.declared.class.Class.{Class}
+use Rattle.grouping_tree.specs.declared.class.Fill.{Fill}
+use Rattle.grouping_tree.proofs.Puts.{class-unused}
+use Rattle.grouping_tree.proofs.Slacks.{size_low}
+use Rattle.grouping_tree.proofs.Steps.{class_next, element, range_at}
+use Rattle.grouping_tree.proofs.Used.{class_signal, classes_few, few, item_signal, long, used_signal}
 
 -- the class of a label that is put has a signal
 pub put_signal : (problem : Parts) (p : Partial) (label : ℕ) → Belongs problem p
@@ -61,48 +63,54 @@ long_is problem p label bytes long b legal is at =
     (subst (IsFrameLength problem.network bytes) (sym at)
     (b.lengths bytes long (bytes_low problem p label bytes legal is)))
 
--- its times are those of its sums
-pub put_times : (problem : Parts) (p : Partial) (label : ℕ) (sums : Sums) → Belongs problem p
+-- its frame has at most 64 bytes
+pub long_low : (network : Network) (bytes : ℕ) (long : FrameLength) → IsFrameLength network bytes long → long.size ≤ 64
+long_low network bytes long is = subst (λ n. n ≤ 64) (sym is.size) (size_low bytes)
+
+-- the class of a new label is that of the item alone
+pub put_new : (problem : Parts) (p : Partial) (label : ℕ) (next : Class) → Belongs problem p → IsNext problem p next
+    → label ≡ p.classes → IsClass problem (class_of label (labels_of p ++ label ∷ []) (range_of problem p)) next
+put_new problem p label next b is same =
+    let range = range_of problem p in
+    let labels = labels_of p in
+    let (item, at) = element range (length labels) is.some in
+    let none : class_of label labels range ≡ [] = class-unused labels range label (omega (arith, same, b.classes)) in
+    subst (λ xs. IsClass problem xs next)
+    (sym (class_next label labels range item is.some at ∙ ap (λ xs. xs ++ item ∷ []) none))
+    (subst (λ x. IsClass problem (x ∷ []) next) (sym at) (is.alone item))
+
+-- and that of a used one what its items and the item make
+pub put_used : (problem : Parts) (p : Partial) (label : ℕ) (next before after : Class) (fill : Fill) (sized : FrameLength)
+    → Belongs problem p → IsNext problem p next → IsUsed p label
     → IsPartial (range_of problem p) (labels_of p ++ label ∷ [])
-    → AreSums problem (class_of label (labels_of p ++ label ∷ []) (range_of problem p)) sums
-    → AreTimes problem (class_of label (labels_of p ++ label ∷ []) (range_of problem p)) sums
-put_times problem p label sums b legal are =
-    times_of_sums problem b.stands (class_of label (labels_of p ++ label ∷ []) (range_of problem p))
-    (put_signal problem p label b legal) sums are
-
--- so is its period
-pub put_period : (problem : Parts) (p : Partial) (label : ℕ) (sums : Sums) (per_us period_us : ℕ)
-    → Belongs problem p → IsPartial (range_of problem p) (labels_of p ++ label ∷ [])
-    → AreSums problem (class_of label (labels_of p ++ label ∷ []) (range_of problem p)) sums
-    → per_us ≡ p.network.ticks_per_us → period_us ≡ sums.period_us
-    → per_us * period_us
-    ≡ period_of_items problem (class_of label (labels_of p ++ label ∷ []) (range_of problem p))
-put_period problem p label sums per_us period_us b legal are per same =
-    let ticks : per_us ≡ problem.network.ticks_per_us = per ∙ ap (λ (n : Network). n.ticks_per_us) (sym b.network) in
-    let us = same ∙ (put_times problem p label sums b legal are).period in
-    λ i. ticks i * us i
-
--- which is not 0
-pub put_sent : (problem : Parts) (p : Partial) (label : ℕ) → Belongs problem p
-    → IsPartial (range_of problem p) (labels_of p ++ label ∷ [])
-    → 1 ≤ period_of_items problem (class_of label (labels_of p ++ label ∷ []) (range_of problem p))
-put_sent problem p label b legal =
-    (frame_in_range problem (class_of label (labels_of p ++ label ∷ []) (range_of problem p)) b.stands
-    (put_signal problem p label b legal)).some_period
-
--- how often the class of a label was sent before
-pub share_before : (problem : Parts) (p : Partial) (items : List Item) (state : State) → Belongs problem p
-    → IsKept problem items state → state.cost.share ≡ p.hyper / state.frame.period
-share_before problem p items state b kept =
-    let period : state.frame.period ≡ period_of_items problem items = ap (λ (f : Timed). f.period) kept.frame in
-    kept.cost.share ∙ ap (λ n. n / period_of_items problem items) b.hyper ∙ ap (λ n. p.hyper / n) (sym period)
-
--- and how often it is sent
-pub share_after : (problem : Parts) (p : Partial) (items : List Item) (share period : ℕ) → Belongs problem p
-    → share ≡ p.hyper / period → period ≡ period_of_items problem items
-    → share ≡ problem.hyper / period_of_items problem items
-share_after problem p items share period b is same =
-    is ∙ ap (λ n. n / period) (sym b.hyper) ∙ ap (λ n. problem.hyper / n) same
+    → IsClass problem (items_with problem p label) before → fill ≡ together before.fill next.fill
+    → IsFrameLength problem.network
+    (bytes_of_items (class_of label (labels_of p ++ label ∷ []) (range_of problem p))) sized
+    → ((items : List Item) (item : Item) → HasSignal problem items → HasSignal problem (item ∷ [])
+    → HasSignal problem (items ++ item ∷ []) → IsClass problem items before → IsClass problem (item ∷ []) next
+    → fill ≡ together before.fill next.fill → IsFrameLength problem.network (bytes_of_items (items ++ item ∷ [])) sized
+    → IsClass problem (items ++ item ∷ []) after)
+    → IsClass problem (class_of label (labels_of p ++ label ∷ []) (range_of problem p)) after
+put_used problem p label next before after fill sized b is low legal first same length_is join =
+    let range = range_of problem p in
+    let labels = labels_of p in
+    let items = items_with problem p label in
+    let (item, at) = element range (length labels) is.some in
+    let more : class_of label (labels ++ label ∷ []) range ≡ items ++ item ∷ [] =
+    class_next label labels range item is.some at in
+    let one : HasSignal problem (item ∷ []) = next_alone problem p item b is at in
+    subst (λ xs. IsClass problem xs after) (sym more)
+    (join items item (used_signal problem p label b low) one
+    (subst (HasSignal problem) more (put_signal problem p label b legal)) first
+    (subst (λ x. IsClass problem (x ∷ []) next) (sym at) (is.alone item)) same
+    (subst (λ xs. IsFrameLength problem.network (bytes_of_items xs) sized) more length_is))
+  where
+    next_alone : (problem : Parts) (p : Partial) (item : Item) → Belongs problem p → IsNext problem p next
+        → item ≡ get_or (range_of problem p) (length (labels_of p)) item → HasSignal problem (item ∷ [])
+    next_alone problem p item b is at =
+        let some : length (labels_of p) < p.many = omega (arith, is.some, long problem p b) in
+        item_signal problem b.stands (p.first + length (labels_of p)) item (omega (arith, some, b.inside))
+        (at ∙ range_at p.first p.many problem.items (length (labels_of p)) item some)
 
 -- ---- the frames
 

@@ -69,7 +69,7 @@ earlier_place items labels l label is =
     (low, sym (get_or-front labels (l ∷ []) is.place 0 low) ∙ is.has)
 
 -- so those below one end at the first unused one
-earlier_low : (items : List Item) (labels : List ℕ) (l first : ℕ)
+pub earlier_low : (items : List Item) (labels : List ℕ) (l first : ℕ)
     → AreEarlier items (labels ++ l ∷ []) first → first ≤ classes_of labels
 earlier_low items labels l first are = by (cases_lt (classes_of labels) first)
   where

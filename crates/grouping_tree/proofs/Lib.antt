@@ -1,7 +1,9 @@
 pub mod After
 pub mod Classes
 pub mod Earlier
+pub mod Fills
 pub mod Fronts
+pub mod Joins
 pub mod Lasts
 pub mod Loads
 pub mod Options

@@ -9,19 +9,19 @@ use Rattle.class_frame.specs.Frame.{bytes_of_items, is_pdu}
 use Rattle.class_frame.specs.Legal.{ClassStands}
 use Rattle.grouping_tree.specs.Partial.{IsPartial, same_kind, alike, is_class, keeps_legal, options_of}
 
-both : (a b : Bool) → a ≡ true → b ≡ true → (a && b) ≡ true
+pub both : (a b : Bool) → a ≡ true → b ≡ true → (a && b) ≡ true
 both true b e f = f
 both false b e f = absurd cc
 
 -- ---- the test of a class
 
-same_kind-from : (a b : Bool) → a ≡ b → same_kind a b ≡ true
+pub same_kind-from : (a b : Bool) → a ≡ b → same_kind a b ≡ true
 same_kind-from true true e = refl
 same_kind-from true false e = absurd cc
 same_kind-from false true e = absurd cc
 same_kind-from false false e = refl
 
-same_kind-to : (a b : Bool) → same_kind a b ≡ true → a ≡ b
+pub same_kind-to : (a b : Bool) → same_kind a b ≡ true → a ≡ b
 same_kind-to true true e = refl
 same_kind-to true false e = absurd cc
 same_kind-to false true e = absurd cc
@@ -55,6 +55,10 @@ pairs-first f x xs h (suc i) (suc j) d before lt = sym (h i d (omega arith)) ∙
 no_pairs : (R : Item → Item → Type 0) → AllPairs R []
 no_pairs R i j d before lt = absurd (omega arith)
 
+-- where the rest of some items are like the first of them, all are of one kind
+pub alike-kind : (x : Item) (xs : List Item) → list_all (alike x) xs ≡ true → AllPairs (λ item other. is_pdu item ≡ is_pdu other) (x ∷ xs)
+alike-kind x xs e = pairs-first is_pdu x xs (λ k d lt. same_kind-to (is_pdu x) (is_pdu (get_or xs k d)) (and_parts (nat_eq x.sender (get_or xs k d).sender) (same_kind (is_pdu x) (is_pdu (get_or xs k d))) (all-to (alike x) xs e k d lt)).1)
+
 pub is_class-to : (xs : List Item) → is_class xs ≡ true → ClassStands xs
 is_class-to [] e = record { one_sender = no_pairs (λ item other. item.sender ≡ other.sender); one_kind = no_pairs (λ item other. is_pdu item ≡ is_pdu other); small = omega arith }
 is_class-to (x ∷ xs) e =
@@ -62,7 +66,7 @@ is_class-to (x ∷ xs) e =
     let each = λ (k : ℕ) (d : Item) (lt : k < length xs). and_parts (nat_eq x.sender (get_or xs k d).sender) (same_kind (is_pdu x) (is_pdu (get_or xs k d))) (all-to (alike x) xs parts.0 k d lt) in
     record {
       one_sender = pairs-first (λ item. item.sender) x xs (λ k d lt. eqb-true x.sender (get_or xs k d).sender (each k d lt).0);
-      one_kind = pairs-first is_pdu x xs (λ k d lt. same_kind-to (is_pdu x) (is_pdu (get_or xs k d)) (each k d lt).1);
+      one_kind = alike-kind x xs parts.0;
       small = leb-true (bytes_of_items (x ∷ xs)) 64 parts.1;
     }
 

@@ -68,15 +68,20 @@ class-first l [] n d lt = absurd (omega arith)
 class-first l (x ∷ xs) zero d lt = rw (eq-eqb l l refl) refl
 class-first l (x ∷ xs) (suc n) d lt = class-first l xs n d (omega arith)
 
--- the first unused label is an option, once, where the next item alone can be a frame
-pub new-option : (items : List Item) (p : List ℕ) (d : Item) → IsPartial items p → length p < length items → ClassStands (get_or items (length p) d ∷ [])
-    → count_by (λ x. nat_eq x (classes_of p)) (options_of items p) ≡ 1
-new-option items p d h room alone =
+-- the first unused label keeps the grouping legal where the next item alone can be a frame
+pub new-legal : (items : List Item) (p : List ℕ) (d : Item) → length p < length items → ClassStands (get_or items (length p) d ∷ []) → keeps_legal items p (classes_of p) ≡ true
+new-legal items p d room alone =
     let c = classes_of p in
     let same : class_of c (p ++ c ∷ []) items ≡ get_or items (length p) d ∷ [] =
     class-append c p (c ∷ []) items ∙ ap (λ xs. xs ++ class_of c (c ∷ []) (drop (length p) items)) (class-unused p items c (omega arith)) ∙ class-first c items (length p) d room
     in
-    next-once items p c (put-legal items p c h room (omega arith) (is_class-from (class_of c (p ++ c ∷ []) items) (subst ClassStands (sym same) alone)))
+    is_class-from (class_of c (p ++ c ∷ []) items) (subst ClassStands (sym same) alone)
+
+-- and is an option then, once
+pub new-option : (items : List Item) (p : List ℕ) (d : Item) → IsPartial items p → length p < length items → ClassStands (get_or items (length p) d ∷ [])
+    → count_by (λ x. nat_eq x (classes_of p)) (options_of items p) ≡ 1
+new-option items p d h room alone =
+    next-once items p (classes_of p) (put-legal items p (classes_of p) h room (omega arith) (new-legal items p d room alone))
 
 -- the bytes of one item
 one_item_bytes : (item : Item) → item.bits ≤ 512 → bytes_of_items (item ∷ []) ≤ 64

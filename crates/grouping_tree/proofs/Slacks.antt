@@ -22,7 +22,7 @@ pub no_slack : (problem : Parts) → slack_of problem [] ≡ 0
 no_slack problem = omega arith
 
 -- a frame has at most 64 bytes
-size_low : (bytes : ℕ) → unwrap_or (fd_size_of bytes) 0 ≤ 64
+pub size_low : (bytes : ℕ) → unwrap_or (fd_size_of bytes) 0 ≤ 64
 size_low bytes = by (fd_size_of bytes) refl
   where
     by : (size : Option ℕ) → fd_size_of bytes ≡ size → unwrap_or size 0 ≤ 64

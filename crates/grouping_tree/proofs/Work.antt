@@ -4,7 +4,7 @@ use Rattle.std.proofs.lemmas.Bool.{cases_eq, eq-eqb, eqb-true, false≢true, le-
 use Rattle.std.proofs.lemmas.Option.{same_Some}
 use Rattle.pack_model.specs.declared.item.Item.{Item}
 use Rattle.pack_model.specs.Problem.{Parts}
-use Rattle.class_frame.specs.declared.sums.Sums.{Sums}
+use Rattle.grouping_tree.specs.declared.class.Class.{Class}
 use Rattle.class_frame.proofs.GroupingLaws.{used}
 use Rattle.grouping_tree.specs.Grouped.{AreEarlier, Belongs, IsNext, labels_of, range_of}
 use Rattle.grouping_tree.specs.Slack.{last_sender, sender_in_work, slacks_of}
@@ -28,49 +28,49 @@ no_work problem p s none =
     apart e = absurd cc
 
 -- else it is that of the last item with a label
-pub in_work_is : (problem : Parts) (p : Partial) (n s : ℕ) (last : Sums) → Belongs problem p
+pub in_work_is : (problem : Parts) (p : Partial) (n s : ℕ) (last : Class) → Belongs problem p
     → n + 1 ≡ p.count → last ≡ get_or p.items.items n last
-    → IsTrue (nat_eq last.first_sender s) ↔ (sender_in_work (range_of problem p) (labels_of p) ≡ Some s)
+    → IsTrue (nat_eq last.fill.sender s) ↔ (sender_in_work (range_of problem p) (labels_of p) ≡ Some s)
 in_work_is problem p n s last b next at =
     let range = range_of problem p in
     let (item, is) = element range n (omega (arith, next, b.within, long problem p b)) in
-    let own : last.first_sender ≡ (get_or range n item).sender =
-    ap (λ (x : Sums). x.first_sender) at
+    let own : last.fill.sender ≡ (get_or range n item).sender =
+    ap (λ (x : Class). x.fill.sender) at
     ∙ item_sender problem p n last item b (omega (arith, next, b.within)) in
     let work = work_is problem p n item b next in (
-      λ e. work ∙ ap Some (sym own ∙ eqb-true last.first_sender s e),
-      λ e. eq-eqb last.first_sender s (own ∙ same_Some (get_or range n item).sender s (sym work ∙ e)),
+      λ e. work ∙ ap Some (sym own ∙ eqb-true last.fill.sender s e),
+      λ e. eq-eqb last.fill.sender s (own ∙ same_Some (get_or range n item).sender s (sym work ∙ e)),
     )
 
--- the next item's sender is kept in its sums
-next_is : (problem : Parts) (p : Partial) (next : Sums) (d : Item) → Belongs problem p → IsNext problem p next
-    → next.first_sender ≡ (get_or (range_of problem p) p.count d).sender
+-- the next item's sender is kept of it
+next_is : (problem : Parts) (p : Partial) (next : Class) (d : Item) → Belongs problem p → IsNext problem p next
+    → next.fill.sender ≡ (get_or (range_of problem p) p.count d).sender
 next_is problem p next d b is =
     next_sender problem p next d b is
     ∙ ap (λ m. (get_or (range_of problem p) m d).sender) (counted problem p b)
 
 -- where it is of another sender, its sender has no slacks yet
-pub no_slacks : (problem : Parts) (p : Partial) (next : Sums) → Belongs problem p → IsNext problem p next
-    → (sender_in_work (range_of problem p) (labels_of p) ≡ Some next.first_sender → ⊥)
-    → slacks_of problem next.first_sender (range_of problem p) (labels_of p) ≡ 0
+pub no_slacks : (problem : Parts) (p : Partial) (next : Class) → Belongs problem p → IsNext problem p next
+    → (sender_in_work (range_of problem p) (labels_of p) ≡ Some next.fill.sender → ⊥)
+    → slacks_of problem next.fill.sender (range_of problem p) (labels_of p) ≡ 0
 no_slacks problem p next b is other = by (cases_eq p.count 0)
   where
     by : (p.count ≡ 0) ⊎ (p.count ≡ 0 → ⊥)
-        → slacks_of problem next.first_sender (range_of problem p) (labels_of p) ≡ 0
+        → slacks_of problem next.fill.sender (range_of problem p) (labels_of p) ≡ 0
     by (inl none) =
-        ap (λ n. slacks_of problem next.first_sender (range_of problem p) (take n p.labels.items)) none
+        ap (λ n. slacks_of problem next.fill.sender (range_of problem p) (take n p.labels.items)) none
     by (inr some) =
         let n : ℕ = p.count - 1 in
         let last : n + 1 ≡ p.count = omega (arith, some) in
         let (item, at) = element (range_of problem p) n (omega (arith, last, b.within, long problem p b)) in
-        other_sender problem p n next.first_sender item item b last
+        other_sender problem p n next.fill.sender item item b last
         (omega (arith, is.some, counted problem p b, long problem p b))
         (sym (next_is problem p next item b is))
         (λ same. other (work_is problem p n item b last ∙ ap Some same))
 
 -- the labels of earlier senders stay those where the next item is of the sender in work
-pub earlier_stays : (problem : Parts) (p : Partial) (next : Sums) (label : ℕ) → Belongs problem p
-    → IsNext problem p next → sender_in_work (range_of problem p) (labels_of p) ≡ Some next.first_sender
+pub earlier_stays : (problem : Parts) (p : Partial) (next : Class) (label : ℕ) → Belongs problem p
+    → IsNext problem p next → sender_in_work (range_of problem p) (labels_of p) ≡ Some next.fill.sender
     → AreEarlier (range_of problem p) (labels_of p ++ label ∷ []) p.first_label
 earlier_stays problem p next label b is same k lt =
     let labels = labels_of p in
@@ -84,18 +84,18 @@ earlier_stays problem p next label b is same k lt =
       before = λ d e.
           let n : ℕ = length labels - 1 in
           let work = work_is problem p n e b (omega (arith, old.low, counted problem p b)) in
-          let last : (get_or range n e).sender ≡ next.first_sender =
-          same_Some (get_or range n e).sender next.first_sender (sym work ∙ same) in
+          let last : (get_or range n e).sender ≡ next.fill.sender =
+          same_Some (get_or range n e).sender next.fill.sender (sym work ∙ same) in
           let here : length (labels ++ label ∷ []) - 1 ≡ p.count = omega (arith, more, counted problem p b) in
-          let at : (get_or range (length (labels ++ label ∷ []) - 1) e).sender ≡ next.first_sender =
+          let at : (get_or range (length (labels ++ label ∷ []) - 1) e).sender ≡ next.fill.sender =
           ap (λ m. (get_or range m e).sender) here ∙ sym (next_is problem p next e b is) in
           omega (arith, old.before d e, last, at);
     }
 
 -- and are all used ones where it is of another
-pub earlier_all : (problem : Parts) (p : Partial) (next : Sums) (label : ℕ) → Belongs problem p
+pub earlier_all : (problem : Parts) (p : Partial) (next : Class) (label : ℕ) → Belongs problem p
     → IsNext problem p next
-    → (sender_in_work (range_of problem p) (labels_of p) ≡ Some next.first_sender → ⊥)
+    → (sender_in_work (range_of problem p) (labels_of p) ≡ Some next.fill.sender → ⊥)
     → AreEarlier (range_of problem p) (labels_of p ++ label ∷ []) p.classes
 earlier_all problem p next label b is other k lt =
     let labels = labels_of p in

@@ -1,5 +1,5 @@
 -- Running sums of a partial grouping of a range of items: the project's own.
-use Rattle.std.specs.Prelude.{ℕ, ◌≡◌, ◌<◌, ◌≤◌, ◌+◌, ◌-◌, ◌/◌, unwrap_or, List, [], ◌∷◌, length, take, drop, slice_index, slice_index_or, Option, None, Some}
+use Rattle.std.specs.Prelude.{ℕ, ◌≡◌, ◌<◌, ◌≤◌, ◌+◌, ◌-◌, unwrap_or, List, [], ◌∷◌, length, take, drop, slice_index, slice_index_or, Option, None, Some}
 use Rattle.pack_model.specs.declared.item.Item.{Item}
 use Rattle.pack_model.specs.Problem.{Parts, IsProblem, sent_by}
 use Rattle.class_frame.specs.Grouping.{class_of, classes_of}
@@ -8,15 +8,14 @@ use Rattle.frame_ticks.specs.Worst.{worst_ticks_of}
 use Rattle.pack_model.specs.declared.network.Network.{Network}
 use Rattle.busy_period.specs.declared.timed.Timed.{Timed}
 use Rattle.class_frame.specs.Classes.{load_of}
-use Rattle.class_frame.specs.Frame.{load_of_items, period_of_items, timed_of_items}
-use Rattle.class_frame.specs.Sums.{AreSums}
-use Rattle.class_frame.specs.declared.sums.Sums.{Sums}
+use Rattle.class_frame.specs.Frame.{timed_of_items}
 use Rattle.grouping_tree.specs.Partial.{IsPartial}
 use Rattle.grouping_tree.specs.declared.partial.Partial.{Partial}
 use Rattle.grouping_tree.specs.declared.frame_length.FrameLength.{FrameLength}
 use Rattle.grouping_tree.specs.declared.kept.State.{State}
-use Rattle.grouping_tree.specs.declared.cost.Cost.{Cost}
-use Rattle.grouping_tree.specs.Slack.{sender_in_work, slack_in_work, slack_of}
+use Rattle.grouping_tree.specs.declared.class.Class.{Class}
+use Rattle.grouping_tree.specs.Class.{IsClass}
+use Rattle.grouping_tree.specs.Slack.{sender_in_work, slack_in_work}
 
 -- the number of items that the memory was taken for
 abbrev pub room_of : Partial → ℕ
@@ -47,9 +46,9 @@ items_with problem p label = class_of label (labels_of p) (range_of problem p)
 abbrev pub IsUsed : Partial → ℕ → Type 0
 IsUsed p label = label < classes_of (labels_of p)
 
--- the sums of each of some items
-abbrev pub AreEach : Parts → List Item → List Sums → Type 0
-AreEach problem items sums = (i : ℕ) (d : Sums) (item : Item) → i < length items → AreSums problem (slice_index_or items i item ∷ []) (slice_index_or sums i d)
+-- what is kept of each of some items as a class of its own
+abbrev pub AreEach : Parts → List Item → List Class → Type 0
+AreEach problem items alone = (i : ℕ) (d : Class) (item : Item) → i < length items → IsClass problem (slice_index_or items i item ∷ []) (slice_index_or alone i d)
 
 -- the slacks of the classes of the sender in work together
 abbrev pub slack_at : Parts → List Item → List ℕ → ℕ
@@ -67,12 +66,6 @@ pub record IsEarlier (range : List Item) (labels : List ℕ) (label : ℕ) : Typ
 abbrev pub AreEarlier : List Item → List ℕ → ℕ → Type 0
 AreEarlier range labels first = (label : ℕ) → label < first → IsEarlier range labels label
 
--- what a class costs in a common period: how often it is sent, its load and its slack
-pub record IsCost (problem : Parts) (items : List Item) (cost : Cost) : Type 0 where
-  pub share : cost.share ≡ problem.hyper / period_of_items problem items
-  pub load : cost.load ≡ load_of_items problem items
-  pub slack : cost.slack ≡ slack_of problem items
-
 -- how many numbers of bytes the items of a frame can have: 0 to 64
 abbrev pub lengths_room : ℕ
 lengths_room = 65
@@ -82,11 +75,9 @@ pub record IsFrameLength (network : Network) (bytes : ℕ) (long : FrameLength) 
   pub size : long.size ≡ unwrap_or (fd_size_of bytes) 0
   pub ticks : long.ticks ≡ worst_ticks_of network (unwrap_or (fd_size_of bytes) 0)
 
--- what is kept of a class: its items' sums, what it costs, and the class as a frame
-pub record IsKept (problem : Parts) (items : List Item) (state : State) : Type 0 where
-  pub sums : AreSums problem items state.sums
-  pub cost : IsCost problem items state.cost
-  pub frame : state.frame ≡ timed_of_items problem items
+-- what is kept of a class
+abbrev pub IsKept : Parts → List Item → State → Type 0
+IsKept problem items state = IsClass problem items state.own
 
 -- and of all classes: how many there are, how many there were when the sender in work began, the load and the slack
 pub record AreKept (problem : Parts) (range : List Item) (labels : List ℕ) (state : State) : Type 0 where
@@ -135,7 +126,7 @@ pub record Belongs (problem : Parts) (p : Partial) : Type 0 where
   pub last_before : (i : ℕ) → i < p.count → IsLast p.labels.items i (slice_index p.labels.items i) (slice_index p.before.items i)
   pub all : (i : ℕ) (d : State) → i ≤ p.count → AreKept problem (range_of problem p) (take i p.labels.items) (slice_index_or p.states.items i d)
 
--- an item is left, and these are its sums
-pub record IsNext (problem : Parts) (p : Partial) (next : Sums) : Type 0 where
+-- an item is left, and this is what is kept of it as a class of its own
+pub record IsNext (problem : Parts) (p : Partial) (next : Class) : Type 0 where
   pub some : length (labels_of p) < length (range_of problem p)
-  pub sums : (d : Item) → AreSums problem (slice_index_or (range_of problem p) (length (labels_of p)) d ∷ []) next
+  pub alone : (d : Item) → IsClass problem (slice_index_or (range_of problem p) (length (labels_of p)) d ∷ []) next

@@ -1,3 +1,4 @@
+pub mod Class
 pub mod Grouped
 pub mod Laws
 pub mod Partial

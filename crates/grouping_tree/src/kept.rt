@@ -6,9 +6,8 @@ ghost use Rattle.pack_model.specs.Problem.{Parts};
 ghost use Rattle.pack_model.specs.declared.item.Item.{Item};
 ghost use Rattle.grouping_tree.specs.Grouped.{AreKept, IsKept};
 
-use crate::cost::{Cost, no_frame};
+use crate::class::Class;
 use busy_period::Timed;
-use class_frame::Sums;
 use pack_model::Network;
 
 /// What all classes come to once the next item has a label.
@@ -34,12 +33,8 @@ pub struct Kept {
 /// What is kept of the class of a label and of all classes.
 #[derive(Clone, Copy, Debug, PartialEq, Eq)]
 pub(crate) struct State {
-    /// The sums of the items of the label.
-    pub(crate) sums: Sums,
-    /// What their class costs.
-    pub(crate) cost: Cost,
-    /// The class as a frame.
-    pub(crate) frame: Timed,
+    /// What is kept of the class.
+    pub(crate) own: Class,
     /// The number of classes.
     pub(crate) classes: u32,
     /// How many there were when the sender in work began.
@@ -58,9 +53,7 @@ impl State {
         ensures all { (problem : Parts) (range : List Item) → AreKept problem range [] result }
     {
         State {
-            sums: Sums::none(),
-            cost: Cost::none(),
-            frame: no_frame(network),
+            own: Class::none(network),
             classes: 0,
             first_label: 0,
             load: 0,

@@ -4,7 +4,7 @@
 //! that keep each class one that can become a frame.
 #![tactic(auto)]
 
-mod cost;
+mod class;
 mod frame_length;
 mod kept;
 mod laws;

@@ -8,21 +8,18 @@ ghost use Rattle.response_test.specs.Refuted.{IsCommon};
 ghost use Rattle.class_frame.specs.Classes.{frames_of_classes, load_of};
 ghost use Rattle.class_frame.specs.Frame.{timed_of_items, weight_of_items, size_of_items};
 ghost use Rattle.class_frame.specs.Grouping.{class_of, classes_of};
-ghost use Rattle.class_frame.specs.Sums.{AreSums, IsSmall};
-ghost use Rattle.class_frame.specs.declared.sums.Sums.{Sums};
+ghost use Rattle.grouping_tree.specs.Class.{IsClass};
 ghost use Rattle.grouping_tree.specs.Partial.{IsPartial, keeps_legal, options_of};
-ghost use Rattle.grouping_tree.specs.Grouped.{AreEach, AreEarlier, Belongs, IsCost, IsNext, IsKept, IsState, IsUsed, items_in, items_with, sender_of, labels_of, range_of, room_of, slack_at};
-ghost use Rattle.grouping_tree.specs.declared.cost.Cost.{Cost};
+ghost use Rattle.grouping_tree.specs.Grouped.{AreEach, AreEarlier, Belongs, IsNext, IsKept, IsState, IsUsed, items_in, items_with, sender_of, labels_of, range_of, room_of, slack_at};
 ghost use Rattle.busy_period.specs.declared.timed.Timed.{Timed};
 ghost use Rattle.grouping_tree.specs.Slack.{sender_in_work, slack_in_work, slacks_of};
 ghost use Rattle.grouping_tree.specs.Walk.{options_from, places_below, places_left};
 
-use crate::cost::{Cost, share_of};
+use crate::class::Class;
 use crate::frame_length::{FrameLength, LENGTHS, write_lengths};
 use crate::kept::{Ahead, Kept, State, clear};
-use crate::place::{place_in, write_sums};
+use crate::place::{place_in, write_alone};
 use busy_period::Timed;
-use class_frame::Sums;
 use pack_model::{Memory, Network, Problem};
 use std::alloc::Global;
 
@@ -51,8 +48,8 @@ pub struct Partial {
     slack: u128,
     /// The labels, and what is left of earlier ones.
     labels: Vec<u32>,
-    /// The sums of each item of the range.
-    items: Vec<Sums>,
+    /// What is kept of each item of the range as a class of its own.
+    items: Vec<Class>,
     /// The class of each label as a frame.
     frames: Vec<Timed>,
     /// How long the frame of items of each number of bytes is.
@@ -103,8 +100,8 @@ impl Partial {
     {
         let place = place_in(problem, sender);
         let none = State::none(problem.network());
-        let mut items = vec![in alloc; none.sums; place.many]?;
-        write_sums(&mut items, problem, place);
+        let mut items = vec![in alloc; none.own; place.many]?;
+        write_alone(&mut items, problem, place);
         let mut lengths = vec![in alloc; FrameLength::none(); LENGTHS as usize]?;
         write_lengths(&mut lengths, problem.network());
         Ok(Partial {
@@ -120,7 +117,7 @@ impl Partial {
             slack: 0,
             labels: vec![in alloc; 0; place.many]?,
             items,
-            frames: vec![in alloc; none.frame; place.many]?,
+            frames: vec![in alloc; none.own.frame; place.many]?,
             lengths,
             states: vec![in alloc; none; place.many + 1]?,
             last: vec![in alloc; 0; place.many]?,
@@ -152,10 +149,10 @@ impl Partial {
         self.first_label = 0;
         self.load = 0;
         self.slack = 0;
-        write_sums(&mut self.items, problem, place);
+        write_alone(&mut self.items, problem, place);
         write_lengths(&mut self.lengths, problem.network());
         let none = State::none(problem.network());
-        clear(&mut self.last, &mut self.frames, none.frame);
+        clear(&mut self.last, &mut self.frames, none.own.frame);
         self.states[0] = none;
     }
 
@@ -203,15 +200,15 @@ impl Partial {
         if self.count == self.many {
             return 0;
         }
-        let next = self.next_sums();
+        let next = self.next_alone();
         let first = self.first_option(next);
         let mut count = 0;
-        for label in first..self.classes + 1 {
+        for label in first..self.classes {
             if self.may_put(label, next) {
                 count += 1;
             }
         }
-        count
+        count + 1
     }
 
     /// The option of number `k`, from 0 on, by ascending labels.
@@ -220,10 +217,10 @@ impl Partial {
         requires below { k < length (options_of (range_of problem.now self.now) (labels_of self.now)) }
         ensures { result ≡ slice_index (options_of (range_of problem.now self.now) (labels_of self.now)) k }
     {
-        let next = self.next_sums();
+        let next = self.next_alone();
         let first = self.first_option(next);
         let mut before = k;
-        for label in first..self.classes + 1 {
+        for label in first..self.classes {
             if self.may_put(label, next) {
                 if before == 0 {
                     return label;
@@ -231,7 +228,7 @@ impl Partial {
                 before -= 1;
             }
         }
-        unreachable!()
+        self.classes
     }
 
     /// The least option that is at least `from`, if there is one.
@@ -247,45 +244,36 @@ impl Partial {
         if self.count == self.many {
             return None;
         }
-        let next = self.next_sums();
+        if self.classes < from {
+            return None;
+        }
+        let next = self.next_alone();
         let first = self.first_option(next);
-        for label in from.max(first)..self.classes + 1 {
+        for label in from.max(first)..self.classes {
             if self.may_put(label, next) {
                 return Some(label);
             }
         }
-        None
+        Some(self.classes)
     }
 
-    /// The sums of the next item of the range.
-    fn next_sums(&self) -> Sums
+    /// What is kept of the next item of the range as a class of its own.
+    fn next_alone(&self) -> &Class
         requires { (problem : Parts) × Belongs problem self.now
             × (length (labels_of self.now) < length (range_of problem self.now)) }
-        ensures { (problem : Parts) → Belongs problem self.now → IsNext problem self.now result }
+        ensures { (problem : Parts) → Belongs problem self.now → IsNext problem self.now result.now }
     {
-        self.items[self.count]
+        &self.items[self.count]
     }
 
-    /// The sums of the items of a label together with the next item, whose sums are `next`.
-    fn sums_with(&self, label: u32, next: Sums) -> Sums
-        requires next { (problem : Parts) × Belongs problem self.now × IsNext problem self.now next }
-        requires low { label ≤ classes_of (labels_of self.now) }
-        ensures sums { (problem : Parts) → Belongs problem self.now → IsNext problem self.now next
-            → AreSums problem
-            (class_of label (labels_of self.now ++ label ∷ []) (range_of problem self.now)) result }
-        ensures small { IsSmall result }
-    {
-        self.kept_of(label).sums.join(next)
-    }
-
-    /// Whether the next item, whose sums are `next`, may get a label.
-    fn may_put(&self, label: u32, next: Sums) -> bool
-        requires next { (problem : Parts) × Belongs problem self.now × IsNext problem self.now next }
-        requires low { label ≤ classes_of (labels_of self.now) }
-        ensures { (problem : Parts) → Belongs problem self.now → IsNext problem self.now next
+    /// Whether the next item may get a used label.
+    fn may_put(&self, label: u32, next: &Class) -> bool
+        requires next { (problem : Parts) × Belongs problem self.now × IsNext problem self.now next.now }
+        requires used { IsUsed self.now label }
+        ensures { (problem : Parts) → Belongs problem self.now → IsNext problem self.now next.now
             → result ≡ keeps_legal (range_of problem self.now) (labels_of self.now) label }
     {
-        self.sums_with(label, next).stands()
+        self.kept_of(label).own.fill.may_join(next.fill)
     }
 
     /// What is kept of the class of a label.
@@ -306,14 +294,11 @@ impl Partial {
             → IsPartial (range_of problem self.now) (labels_of self.now ++ label ∷ [])
             → IsState problem (range_of problem self.now) (labels_of self.now ++ label ∷ []) label result }
     {
-        let next = self.next_sums();
-        let sums = self.sums_with(label, next);
-        let cost = self.cost_with(label, sums);
-        let all = self.all_with(label, next, cost);
+        let next = self.next_alone();
+        let own = self.own_with(label, next);
+        let all = self.all_with(label, next, &own);
         State {
-            sums,
-            cost,
-            frame: self.frame_with(label, sums),
+            own,
             classes: self.classes.max(label + 1),
             first_label: self.first_option(next),
             load: all.load,
@@ -321,86 +306,59 @@ impl Partial {
         }
     }
 
-    /// The frame of a label, one that may be put next, once the next item has it too and `sums` are those of its
-    /// items.
-    fn frame_with(&self, label: u32, sums: Sums) -> Timed
-        requires small { IsSmall sums }
-        requires sums { (problem : Parts) × Belongs problem self.now
-            × IsPartial (range_of problem self.now) (labels_of self.now ++ label ∷ [])
-            × AreSums problem
-            (class_of label (labels_of self.now ++ label ∷ []) (range_of problem self.now)) sums }
-        ensures { (problem : Parts) → Belongs problem self.now
+    /// What is kept of the class of a label, one that may be put next, once the next item has it too.
+    fn own_with(&self, label: u32, next: &Class) -> Class
+        requires { (problem : Parts) × Belongs problem self.now × IsNext problem self.now next.now
+            × IsPartial (range_of problem self.now) (labels_of self.now ++ label ∷ []) }
+        ensures { (problem : Parts) → Belongs problem self.now → IsNext problem self.now next.now
             → IsPartial (range_of problem self.now) (labels_of self.now ++ label ∷ [])
-            → AreSums problem (class_of label (labels_of self.now ++ label ∷ []) (range_of problem self.now)) sums
-            → result ≡ timed_of_items problem
-            (class_of label (labels_of self.now ++ label ∷ []) (range_of problem self.now)) }
+            → IsClass problem (class_of label (labels_of self.now ++ label ∷ []) (range_of problem self.now)) result }
     {
-        let ticks_per_us = u64::from(self.network.ticks_per_us);
-        Timed {
-            period: ticks_per_us * u64::from(sums.period_us),
-            jitter: ticks_per_us * u64::from(sums.jitter_us),
-            ticks: self.lengths[sums.frame_bytes() as usize].ticks,
-            deadline: ticks_per_us * u64::from(sums.deadline_us),
+        if label == self.classes {
+            return *next;
         }
+        let before = &self.kept_of(label).own;
+        let fill = before.fill.join(next.fill);
+        let long = self.lengths[fill.frame_bytes() as usize];
+        before.join(next, fill, long, &self.network)
     }
 
-    /// What the class of a label costs then.
-    fn cost_with(&self, label: u32, sums: Sums) -> Cost
-        requires small { IsSmall sums }
-        requires sums { (problem : Parts) × Belongs problem self.now
+    /// What all classes come to then, where this is what is kept of the class of the label.
+    fn all_with(&self, label: u32, next: &Class, own: &Class) -> Ahead
+        requires { (problem : Parts) × Belongs problem self.now × IsNext problem self.now next.now
             × IsPartial (range_of problem self.now) (labels_of self.now ++ label ∷ [])
-            × AreSums problem
-            (class_of label (labels_of self.now ++ label ∷ []) (range_of problem self.now)) sums }
-        ensures { (problem : Parts) → Belongs problem self.now
+            × IsClass problem (class_of label (labels_of self.now ++ label ∷ []) (range_of problem self.now)) own.now }
+        ensures load { (problem : Parts) → Belongs problem self.now → IsNext problem self.now next.now
             → IsPartial (range_of problem self.now) (labels_of self.now ++ label ∷ [])
-            → AreSums problem (class_of label (labels_of self.now ++ label ∷ []) (range_of problem self.now)) sums
-            → IsCost problem
-            (class_of label (labels_of self.now ++ label ∷ []) (range_of problem self.now)) result }
-    {
-        let long = self.lengths[sums.frame_bytes() as usize];
-        let period = u64::from(self.network.ticks_per_us) * u64::from(sums.period_us);
-        let before = self.kept_of(label);
-        let share = share_of(self.hyper, period, before.frame.period, before.cost.share);
-        Cost::of(&self.network, sums.weight, long, share)
-    }
-
-    /// What all classes come to then, where the next item has the sums `next`, and the class of the label costs
-    /// `cost`.
-    fn all_with(&self, label: u32, next: Sums, cost: Cost) -> Ahead
-        requires { (problem : Parts) × Belongs problem self.now × IsNext problem self.now next
-            × IsPartial (range_of problem self.now) (labels_of self.now ++ label ∷ [])
-            × IsCost problem (class_of label (labels_of self.now ++ label ∷ []) (range_of problem self.now)) cost }
-        ensures load { (problem : Parts) → Belongs problem self.now → IsNext problem self.now next
-            → IsPartial (range_of problem self.now) (labels_of self.now ++ label ∷ [])
-            → IsCost problem (class_of label (labels_of self.now ++ label ∷ []) (range_of problem self.now)) cost
+            → IsClass problem (class_of label (labels_of self.now ++ label ∷ []) (range_of problem self.now)) own.now
             → result.load ≡ load_of problem (range_of problem self.now) (labels_of self.now ++ label ∷ []) }
-        ensures slack { (problem : Parts) → Belongs problem self.now → IsNext problem self.now next
+        ensures slack { (problem : Parts) → Belongs problem self.now → IsNext problem self.now next.now
             → IsPartial (range_of problem self.now) (labels_of self.now ++ label ∷ [])
-            → IsCost problem (class_of label (labels_of self.now ++ label ∷ []) (range_of problem self.now)) cost
+            → IsClass problem (class_of label (labels_of self.now ++ label ∷ []) (range_of problem self.now)) own.now
             → result.slack ≡ slack_at problem (range_of problem self.now) (labels_of self.now ++ label ∷ []) }
     {
-        let before = self.kept_of(label).cost;
-        let other_loads = self.load - before.load;
-        let other_slacks = self.slacks_beside(next) - before.slack;
+        let before = &self.kept_of(label).own;
+        let other_loads = self.load - before.load();
+        let other_slacks = self.slacks_beside(next) - before.slack();
         Ahead {
-            load: other_loads + cost.load,
-            slack: other_slacks + cost.slack,
+            load: other_loads + own.load(),
+            slack: other_slacks + own.slack(),
         }
     }
 
     /// The slacks of the classes of the next item's sender together.
-    fn slacks_beside(&self, next: Sums) -> u128
-        requires { (problem : Parts) × Belongs problem self.now × IsNext problem self.now next }
-        ensures { (problem : Parts) → Belongs problem self.now → IsNext problem self.now next
-            → result ≡ slacks_of problem next.first_sender (range_of problem self.now) (labels_of self.now) }
+    fn slacks_beside(&self, next: &Class) -> u128
+        requires { (problem : Parts) × Belongs problem self.now × IsNext problem self.now next.now }
+        ensures { (problem : Parts) → Belongs problem self.now → IsNext problem self.now next.now
+            → result ≡ slacks_of problem next.now.fill.sender (range_of problem self.now) (labels_of self.now) }
     {
         if self.is_in_work(next) { self.slack } else { 0 }
     }
 
     /// The least label that the next item may get: those below are of classes of earlier senders.
-    fn first_option(&self, next: Sums) -> u32
-        requires { (problem : Parts) × Belongs problem self.now × IsNext problem self.now next }
-        ensures { (problem : Parts) → Belongs problem self.now → IsNext problem self.now next → (label : ℕ)
+    fn first_option(&self, next: &Class) -> u32
+        requires { (problem : Parts) × Belongs problem self.now × IsNext problem self.now next.now }
+        ensures { (problem : Parts) → Belongs problem self.now → IsNext problem self.now next.now → (label : ℕ)
             → AreEarlier (range_of problem self.now) (labels_of self.now ++ label ∷ []) result }
     {
         if self.is_in_work(next) {
@@ -411,12 +369,12 @@ impl Partial {
     }
 
     /// Whether the next item is of the sender in work.
-    fn is_in_work(&self, next: Sums) -> bool
-        requires { (problem : Parts) × Belongs problem self.now × IsNext problem self.now next }
-        ensures { (problem : Parts) → Belongs problem self.now → IsNext problem self.now next → IsTrue result
-            ↔ (sender_in_work (range_of problem self.now) (labels_of self.now) ≡ Some next.first_sender) }
+    fn is_in_work(&self, next: &Class) -> bool
+        requires { (problem : Parts) × Belongs problem self.now × IsNext problem self.now next.now }
+        ensures { (problem : Parts) → Belongs problem self.now → IsNext problem self.now next.now → IsTrue result
+            ↔ (sender_in_work (range_of problem self.now) (labels_of self.now) ≡ Some next.now.fill.sender) }
     {
-        self.count > 0 && self.items[self.count - 1].first_sender == next.first_sender
+        self.count > 0 && self.items[self.count - 1].fill.sender == next.fill.sender
     }
 
     /// Gives the next item a label: one that may be put next.
@@ -435,7 +393,7 @@ impl Partial {
         self.before[self.count] = self.last[place];
         self.count += 1;
         self.last[place] = self.count;
-        self.frames[place] = after.frame;
+        self.frames[place] = after.own.frame;
         self.classes = after.classes;
         self.first_label = after.first_label;
         self.load = after.load;
@@ -457,7 +415,7 @@ impl Partial {
         let place = self.labels[self.count] as usize;
         let last = self.before[self.count];
         self.last[place] = last;
-        self.frames[place] = self.states[last].frame;
+        self.frames[place] = self.states[last].own.frame;
         let all = &self.states[self.count];
         self.classes = all.classes;
         self.first_label = all.first_label;
@@ -476,10 +434,10 @@ impl Partial {
         ensures size { (problem : Parts) → Belongs problem self.now
             → Some result.size ≡ size_of_items (items_with problem self.now label) }
     {
-        let kept = self.kept_of(label);
+        let kept = &self.kept_of(label).own;
         Kept {
-            weight: kept.sums.weight,
-            size: kept.sums.size().unwrap_or(0),
+            weight: kept.fill.weight,
+            size: self.lengths[kept.fill.frame_bytes() as usize].size,
             timed: kept.frame,
         }
     }
@@ -519,9 +477,9 @@ impl Partial {
             (labels_of self.now ++ label ∷ [])
             (sender_in_work (range_of problem self.now) (labels_of self.now ++ label ∷ [])) }
     {
-        let next = self.next_sums();
-        let cost = self.cost_with(label, self.sums_with(label, next));
-        self.all_with(label, next, cost)
+        let next = self.next_alone();
+        let own = self.own_with(label, next);
+        self.all_with(label, next, &own)
     }
 
     /// The classes as frames, by label, in ticks, for every problem to which the partial grouping belongs.

@@ -1,10 +1,9 @@
-//! The items of a range, and their sums.
+//! The items of a range, and what is kept of each.
 ghost use Rattle.std.specs.Prelude.{◌≡◌, ◌≤◌, ◌<◌, ◌+◌, length, count_by, nat_eq, nat_lt, take, drop};
 ghost use Rattle.pack_model.specs.declared.item.Item.{Item};
-ghost use Rattle.class_frame.specs.declared.sums.Sums.{Sums};
 ghost use Rattle.grouping_tree.specs.Grouped.{AreEach, items_in};
 
-use class_frame::Sums;
+use crate::class::Class;
 use pack_model::{Item, Problem};
 
 /// The items of a range, as a piece of a problem's.
@@ -49,14 +48,14 @@ fn count_of(items: &[Item], sender: u32) -> usize
     items.iter().filter(|item| item.sender == sender).count()
 }
 
-/// Writes the sums of each item of a range.
-pub(crate) fn write_sums(sums: &mut Vec<Sums>, problem: &Problem, place: Place)
-    requires room { place.many ≤ length sums.old.items }
+/// Writes what is kept of each item of a range as a class of its own.
+pub(crate) fn write_alone(alone: &mut Vec<Class>, problem: &Problem, place: Place)
+    requires room { place.many ≤ length alone.old.items }
     requires inside { place.first + place.many ≤ length problem.now.items }
-    ensures room { length sums.new.items ≡ length sums.old.items }
-    ensures each { AreEach problem.now (take place.many (drop place.first problem.now.items)) sums.new.items }
+    ensures room { length alone.new.items ≡ length alone.old.items }
+    ensures each { AreEach problem.now (take place.many (drop place.first problem.now.items)) alone.new.items }
 {
     for number in 0..place.many {
-        sums[number] = Sums::of(problem, &problem.items()[place.first + number]);
+        alone[number] = Class::alone(problem, &problem.items()[place.first + number]);
     }
 }

@@ -33,8 +33,8 @@ returns-clause-belongs c =
       first = λ label lt. absurd (omega arith);
       load = search rules;
       slack = search rules;
-      items = c.write_sums.ensures.each;
-      frames = λ k d lt. ap (λ (l : List Timed). get_or l k d) frames ∙ get_or-replicate _ k c.none-none.result.frame d (search rules) ∙ kept.frame;
+      items = c.write_alone.ensures.each;
+      frames = λ k d lt. ap (λ (l : List Timed). get_or l k d) frames ∙ get_or-replicate _ k c.none-none.result.own.frame d (search rules) ∙ kept.frame;
       lengths = same_lengths _ _ _ (search rules) c.write_lengths.ensures.each;
       kept = λ k d lt.
           none_kept problem _ _ c.none-none.result k d

@@ -50,7 +50,7 @@ returns-clause-belongs c =
       within = omega (arith, some);
       enough = omega (arith, b.enough, long);
       items_room = b.items_room ∙ sym long;
-      frames_room = length-set p.frames.items label c.with_next-after.result.frame ∙ b.frames_room ∙ sym long;
+      frames_room = length-set p.frames.items label c.with_next-after.result.own.frame ∙ b.frames_room ∙ sym long;
       sizes_room = b.sizes_room;
       states_room = length-set p.states.items (p.count + 1) after ∙ b.states_room ∙ ap (λ n. n + 1) (sym long);
       last_room = length-set p.last.items label (p.count + 1) ∙ b.last_room ∙ sym long;
@@ -62,7 +62,7 @@ returns-clause-belongs c =
       load = new.all.load ∙ sym (ap (load_of problem range) labels);
       slack = new.all.slack ∙ sym (ap (slack_at problem range) labels);
       items = b.items;
-      frames = λ k d lt. label_put (λ items frame. frame ≡ timed_of_items problem items) range p.labels.items p.frames.items p.count label c.with_next-after.result.frame here (omega (arith, b.frames_room, there))
+      frames = λ k d lt. label_put (λ items frame. frame ≡ timed_of_items problem items) range p.labels.items p.frames.items p.count label c.with_next-after.result.own.frame here (omega (arith, b.frames_room, there))
           (λ j e below. b.frames j e (omega (arith, below, b.frames_room))) new.own.frame k d (omega (arith, lt, long, b.frames_room));
       lengths = b.lengths;
       kept = λ k d lt. kept_put (IsKept problem) range p.labels.items p.last.items p.states.items p.count label after here held own are more new.own k d (omega (arith, lt, long, b.last_room));

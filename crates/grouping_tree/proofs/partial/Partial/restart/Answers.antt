@@ -19,7 +19,7 @@ returns-clause-belongs c =
       range = c.place_in-place.ensures.slice;
       within = omega arith;
       enough = omega (arith, c.requires.room, c.place_in-place.ensures.inside);
-      items_room = c.write_sums.ensures.room ∙ b.items_room;
+      items_room = c.write_alone.ensures.room ∙ b.items_room;
       frames_room = c.clear.ensures.frames_room ∙ b.last_room;
       sizes_room = c.write_lengths.ensures.room;
       states_room = length-set self.states.items 0 c.none-none.result ∙ b.states_room;
@@ -31,7 +31,7 @@ returns-clause-belongs c =
       first = λ label lt. absurd (omega arith);
       load = search rules;
       slack = search rules;
-      items = c.write_sums.ensures.each;
+      items = c.write_alone.ensures.each;
       frames = λ k d lt. c.clear.ensures.frames k d (omega (arith, lt, b.last_room)) ∙ kept.frame;
       lengths = same_lengths _ _ _ (search rules) c.write_lengths.ensures.each;
       kept = λ k d lt.
@@ -47,8 +47,8 @@ returns-clause-belongs c =
           (c.none-none.ensures.all problem _);
     }
 
-pub write_sums-requires : goal.write_sums-requires
-write_sums-requires c =
+pub write_alone-requires : goal.write_alone-requires
+write_alone-requires c =
     let (other, b) = c.requires.belongs in
     record { room = omega (arith, c.requires.room, c.place_in-place.ensures.inside, b.items_room); inside = c.place_in-place.ensures.inside }
 

@@ -13,5 +13,5 @@ returns-then-is_in_work c = λ problem b is.
 
 pub returns-else-is_in_work : goal.returns-else-is_in_work
 returns-else-is_in_work c = λ problem b is.
-    sym (no_slacks problem c.args.self.now c.args.next b is
+    sym (no_slacks problem c.args.self.now c.args.next.now b is
     (λ same. true≢false (sym ((c.is_in_work.ensures problem b is).1 same) ∙ c.if-is_in_work.false)))

@@ -35,7 +35,7 @@ returns-clause-belongs c =
     let was : IsLast p.labels.items n label earlier =
     subst (λ k. IsLast p.labels.items n k earlier) here
     (subst (IsLast p.labels.items n (get_or p.labels.items n 0)) (sym kept) (b.last_before n (omega (arith, next)))) in
-    let frame : c.index-2.result.now.frame ≡ timed_of_items problem (class_of label (take n p.labels.items) range) =
+    let frame : c.index-2.result.now.own.frame ≡ timed_of_items problem (class_of label (take n p.labels.items) range) =
     (subst (IsKept problem (class_of label (take n p.labels.items) range)) (sym c.index-2.ensures) (one c.index-2.result.now)).frame in
     let own : AreLast (IsKept problem) range p.labels.items p.last.items p.states.items (n + 1) =
     λ k lt. subst (λ m. IsLast p.labels.items m k (get_or p.last.items k 0)) (sym next) (b.last k (omega (arith, lt, b.last_room))) in
@@ -50,7 +50,7 @@ returns-clause-belongs c =
       within = omega (arith, b.within);
       enough = b.enough;
       items_room = b.items_room;
-      frames_room = length-set p.frames.items label c.index-2.result.now.frame ∙ b.frames_room;
+      frames_room = length-set p.frames.items label c.index-2.result.now.own.frame ∙ b.frames_room;
       sizes_room = b.sizes_room;
       states_room = b.states_room;
       last_room = length-set p.last.items label earlier ∙ b.last_room;
@@ -62,7 +62,7 @@ returns-clause-belongs c =
       load = all.load;
       slack = all.slack;
       items = b.items;
-      frames = λ k d lt. label_back (λ items frame. frame ≡ timed_of_items problem items) range p.labels.items p.frames.items n label c.index-2.result.now.frame some (omega (arith, b.frames_room, low)) here
+      frames = λ k d lt. label_back (λ items frame. frame ≡ timed_of_items problem items) range p.labels.items p.frames.items n label c.index-2.result.now.own.frame some (omega (arith, b.frames_room, low)) here
           (λ j e below. subst (λ m. get_or p.frames.items j e ≡ timed_of_items problem (class_of j (take m p.labels.items) range)) (sym next) (b.frames j e (omega (arith, below, b.frames_room)))) frame k d (omega (arith, lt, b.frames_room));
       lengths = b.lengths;
       kept = λ k d lt. kept_back (IsKept problem) range p.labels.items p.last.items p.states.items n label earlier some held here are one k d (omega (arith, lt, b.last_room));

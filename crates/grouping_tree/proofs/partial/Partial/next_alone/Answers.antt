@@ -1,8 +1,8 @@
-use Rattle.std.proofs.Common.{[], ◌∷◌, get_or, sym, ap, ◌∙◌, arith}
-use Rattle.class_frame.specs.Sums.{sums_of}
+use Rattle.std.proofs.Common.{[], ◌∷◌, get_or, sym, subst, arith}
+use Rattle.grouping_tree.specs.Class.{IsClass}
 use Rattle.grouping_tree.specs.Grouped.{range_of}
 use Rattle.grouping_tree.proofs.Used.{counted, long}
-use Rattle.grouping_tree.proofs.partial.Partial.next_sums.Goals as goal
+use Rattle.grouping_tree.proofs.partial.Partial.next_alone.Goals as goal
 
 pub index-requires : goal.index-requires
 index-requires c =
@@ -16,6 +16,9 @@ returns c = λ problem b.
     let many = counted problem p b in
     record {
       some = omega (arith, left, counted other p belongs, long other p belongs, many, long problem p b);
-      sums = λ d. c.index.ensures ∙ b.items p.count c.index.result.now d (omega (arith, left, counted other p belongs, long other p belongs, long problem p b))
-          ∙ ap (λ n. sums_of problem (get_or (range_of problem p) n d ∷ [])) (sym many);
+      alone = λ d.
+          subst (λ n. IsClass problem (get_or (range_of problem p) n d ∷ []) c.index.result.now) (sym many)
+          (subst (IsClass problem (get_or (range_of problem p) p.count d ∷ [])) (sym c.index.ensures)
+          (b.items p.count c.index.result.now d
+          (omega (arith, left, counted other p belongs, long other p belongs, long problem p b))));
     }
