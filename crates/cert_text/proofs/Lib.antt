@@ -4,6 +4,8 @@ pub mod Law
 pub mod Whole
 pub mod Events
 pub mod Runs
+pub mod Numbers
+pub mod NodeTexts
 pub mod Wide
 pub mod Spelled
 pub mod Cuts
