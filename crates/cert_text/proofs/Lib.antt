@@ -10,6 +10,7 @@ pub mod Wide
 pub mod Spelled
 pub mod Cuts
 pub mod Read
+pub mod Fronts
 pub mod Texts
 pub mod Refusals
 pub mod Build

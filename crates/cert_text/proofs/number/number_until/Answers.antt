@@ -3,8 +3,8 @@ use Rattle.std.proofs.lemmas.List.{take_rest}
 use Rattle.cert_text.proofs.Numbers.{IsSpelledSoFar, spelled_all, spelled_more}
 use Rattle.cert_text.proofs.number.number_until.Goals as goal
 
-pub returns-then-byte-end : goal.returns-then-byte-end
-returns-then-byte-end c =
+pub returns-then-byte-end-clause-text : goal.returns-then-byte-end-clause-text
+returns-then-byte-end-clause-text c =
     rw take_rest
     (spelled_all c.args.bytes.now c.in_ok-first.first.now c.in_ok-first.rest.now c.loop-place.place c.loop-place.value c.args.end c.in_ok-first.ensures.cases.0 c.loop-place.invariant c.loop-place-test.true c.if-byte-end.true (omega arith))
 
