@@ -18,10 +18,10 @@ pub(crate) fn number_until(bytes: &[u8], end: u8) -> Option<(u64, &[u8])>
     }
     let mut value = u64::from(*first - b'0');
     for (place, byte) in rest.iter().enumerate() {
-        if *byte == end {
-            return Some((value, &rest[place + 1..]));
+        if !byte.is_ascii_digit() {
+            return (*byte == end).then_some((value, &rest[place + 1..]));
         }
-        if !byte.is_ascii_digit() || *first == b'0' || value > FITS {
+        if *first == b'0' || value > FITS {
             return None;
         }
         value = value * 10 + u64::from(*byte - b'0');

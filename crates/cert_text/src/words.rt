@@ -16,6 +16,8 @@ use pack_model::{Chain, Memory};
 use response_test::Evidence;
 use std::alloc::Global;
 
+/// How many bytes a number of evidence takes about, with its blank.
+const NUMBER_SIZE: usize = 4;
 /// How many numbers the queue of a frame has at most.
 const MOST_NUMBERS: usize = 256;
 
@@ -70,16 +72,11 @@ fn push_number(numbers: &mut Vec<u64>, word: &[u8]) -> Result<bool, Memory>
     Ok(true)
 }
 
-// How many words these bytes are.
-fn count_words(text: &[u8]) -> usize {
-    text.iter().filter(|byte| **byte == b' ').count() + 1
-}
-
 // Numbers that these bytes begin with, and the bytes after them.
 fn first_numbers(alloc: Global, text: &[u8]) -> Result<(Vec<u64>, &[u8]), Memory>
     ensures { IfOk result (λ x. BeginsNumbers text.now x.0.items x.1.now) }
 {
-    let mut numbers = Vec::with_capacity(alloc, count_words(text))?;
+    let mut numbers = Vec::with_capacity(alloc, text.len() / NUMBER_SIZE + 1)?;
     let mut left = text;
     while let Some((number, after)) = number_until(left, b' ') {
         numbers.push(number)?;
