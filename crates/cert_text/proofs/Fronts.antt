@@ -4,7 +4,7 @@ use Rattle.std.specs.List.{AllByRecursion}
 use Rattle.std.specs.Option.{option_map}
 use Rattle.std.proofs.lemmas.List.{map-append}
 use Rattle.cert_text.specs.CertText.{parts}
-use Rattle.cert_text.specs.Words.{BeginsNumbers, before_slash, number_of, numbers_of}
+use Rattle.cert_text.specs.Words.{BeginsNumbers, before_slash, numbers_of}
 use Rattle.cert_text.proofs.Cuts.{all_append, parts_free}
 use Rattle.cert_text.proofs.Read.{decimal_clean, not_slash, number_back}
 

@@ -1,5 +1,5 @@
 -- The bytes that lines of nodes begin with.
-use Rattle.std.proofs.Common.{◌≡◌, ◌≤◌, ℕ, List, [], ◌∷◌, ◌++◌, refl, sym, ap, ◌∙◌, append_assoc, decimal, arith}
+use Rattle.std.proofs.Common.{◌≡◌, ◌≤◌, ℕ, List, [], ◌∷◌, ◌++◌, sym, ap, ◌∙◌, append_assoc, decimal, arith}
 use Rattle.cert_text.specs.declared.node.Node.TheVariants as node
 use Rattle.cert_text.specs.Lines.{line_words}
 use Rattle.cert_text.specs.Nodes.{BeginsNode}

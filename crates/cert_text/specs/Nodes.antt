@@ -1,5 +1,5 @@
 -- The nodes that one line tells whole.
-use Rattle.std.specs.Prelude.{◌≡◌, zero, List, [], ◌∷◌, ◌++◌, ℕ}
+use Rattle.std.specs.Prelude.{◌≡◌, zero, List, [], ◌++◌, ℕ}
 use Rattle.cert_text.specs.declared.event.Event.{Event}
 use Rattle.cert_text.specs.declared.event.Event.TheVariants as event
 use Rattle.cert_text.specs.declared.line.Line.{Line}

@@ -3,7 +3,7 @@ use Rattle.std.specs.Bool.{then_some}
 use Rattle.std.specs.Prelude.{IfSome}
 use Rattle.std.proofs.lemmas.Bool.{eqb-true}
 use Rattle.std.proofs.lemmas.List.{take_rest}
-use Rattle.cert_text.proofs.Numbers.{IsSpelledSoFar, spelled_all, spelled_more}
+use Rattle.cert_text.proofs.Numbers.{spelled_all, spelled_more}
 use Rattle.cert_text.proofs.number.number_until.Goals as goal
 
 -- what a test gives, if it holds

@@ -1,6 +1,5 @@
-use Rattle.std.proofs.Common.{◌≡◌, ◌+◌, ◌∙◌, ap, sym, length, take, arith}
-use Rattle.cert_text.specs.Pieces.{pieces}
-use Rattle.cert_text.proofs.Runs.{pieces_none_last, pieces_set}
+use Rattle.std.proofs.Common.{◌≡◌, ◌+◌, length, arith}
+use Rattle.cert_text.proofs.Runs.{pieces_set}
 use Rattle.cert_text.proofs.position.put_last.Goals as goal
 
 pub returns-then-run-gt0 : goal.returns-then-run-gt0

@@ -1,5 +1,3 @@
-use Rattle.std.proofs.Common.{List, ℕ, sym, subst}
-use Rattle.cert_text.specs.Words.{BeginsNumbers}
 use Rattle.cert_text.proofs.Fronts.{begins_more, begins_none}
 use Rattle.cert_text.proofs.words.first_numbers.Goals as goal
 

@@ -1,4 +1,4 @@
-use Rattle.std.proofs.Common.{[], ◌<◌}
+use Rattle.std.proofs.Common.{[]}
 use Rattle.cert_text.proofs.SourceLaws.{reads_none}
 use Rattle.cert_text.proofs.feed.CertFeed.hear_event.Goals as goal
 

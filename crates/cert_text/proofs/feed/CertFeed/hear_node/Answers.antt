@@ -1,4 +1,4 @@
-use Rattle.std.proofs.Common.{◌≡◌, ◌∷◌, [], ◌++◌, refl, ◌∙◌, append_assoc}
+use Rattle.std.proofs.Common.{◌∷◌, [], refl, ◌∙◌, append_assoc}
 use Rattle.cert_text.specs.Lines.{line_text}
 use Rattle.cert_text.specs.Nodes.{BeginsNode, node_line}
 use Rattle.cert_text.specs.Sources.{TakesUntil}

@@ -3,8 +3,7 @@ use Rattle.cert_text.specs.declared.node.Node.{Node}
 use Rattle.cert_text.specs.declared.node.Node.TheVariants as node
 use Rattle.cert_text.specs.declared.symbol.Symbol.{Symbol}
 use Rattle.cert_text.specs.declared.symbol.Symbol.TheVariants as symbol
-use Rattle.cert_text.specs.declared.line.Line.TheVariants as line
-use Rattle.cert_text.specs.Grammar.{after, expand}
+use Rattle.cert_text.specs.Grammar.{expand}
 use Rattle.cert_text.specs.Nodes.{node_line}
 use Rattle.cert_text.specs.Pieces.{of_run, pieces}
 use Rattle.cert_text.proofs.Runs.{after_inner, after_leaf, last_first}

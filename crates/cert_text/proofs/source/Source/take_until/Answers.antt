@@ -1,6 +1,5 @@
-use Rattle.std.proofs.Common.{◌≡◌, ◌-◌, ◌<◌, ◌≤◌, ℕ, List, ◌++◌, ◌∷◌, length, take, drop, ap, sym, ◌∙◌, arith}
-use Rattle.cert_text.specs.Sources.{TakesUntil}
-use Rattle.cert_text.proofs.SourceLaws.{cut_view, left_size}
+use Rattle.std.proofs.Common.{◌-◌, ℕ, take, drop, ap, ◌∙◌, arith}
+use Rattle.cert_text.proofs.SourceLaws.{cut_view}
 use Rattle.cert_text.proofs.source.Source.take_until.Goals as goal
 
 pub returns : goal.returns
