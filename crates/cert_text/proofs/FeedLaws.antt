@@ -10,6 +10,8 @@ use Rattle.cert_text.specs.declared.fault.FeedFault.{FeedFault}
 use Rattle.cert_text.specs.declared.fault.FeedFault.TheVariants as fault
 use Rattle.cert_text.specs.declared.feed.CertFeed.{CertFeed}
 use Rattle.cert_text.specs.declared.line.Line.{Line}
+use Rattle.cert_text.specs.declared.node.Node.{Node}
+use Rattle.cert_text.specs.declared.node.Node.TheVariants as node
 use Rattle.cert_text.specs.declared.symbol.Symbol.{Symbol}
 use Rattle.cert_text.specs.Lines.{LineInRange, ended, event_lines, line_text, lines_of, text_of}
 use Rattle.cert_text.specs.CertText.{CertRefusal, bad_line, cut, ended_lines, unfinished}
@@ -17,8 +19,9 @@ use Rattle.cert_text.specs.Words.{line_of}
 use Rattle.cert_text.specs.Grammar.{after, run, start}
 use Rattle.cert_text.specs.Reading.{cert_of_text, refusal}
 use Rattle.cert_text.specs.Heard.{Heard, collect, onto_event, silent}
+use Rattle.cert_text.specs.Nodes.{BeginsNode, node_event, node_line}
 use Rattle.cert_text.specs.Depths.{IsWithin, bytes_ahead, depth_of, is_last}
-use Rattle.cert_text.specs.Sources.{Ends, Held, Reads, TakesLine, broke, no_end, text_refusal}
+use Rattle.cert_text.specs.Sources.{Ends, Held, Reads, TakesLine, TakesUntil, broke, no_end, text_refusal}
 use Rattle.cert_text.specs.Given.{BeginsEvents, Given, IsAnswerOf, IsNext, IsRefused, IsTextOf}
 use Rattle.cert_text.specs.Judging.{Finishes, HearsEvent, HearsLine, IsWhole, Judges, RefusesBad, RefusesLine, RefusesLines, RefusesRest}
 use Rattle.cert_text.proofs.Cuts.{all_append}
@@ -156,6 +159,41 @@ event_heard {old = old} {now = now} {heard = heard} next further n e s l = recor
       ∙ ap (λ (h : Heard). e ∷ collect h rest) (heard_ends heard l.line further e l.hears);
   few = l.few;
 }
+
+-- the line of a node is its event
+node_hears : (n : Node) (rest : List Line) → collect silent (node_line n ∷ rest) ≡ node_event n ∷ collect silent rest
+unfolding collect
+node_hears (node.Inner n) rest = refl
+node_hears node.Bound rest = refl
+node_hears node.Open rest = refl
+node_hears node.Fail rest = refl
+
+-- the line of a node that can stand was judged, where it stood in what was left
+pub node_heard : (old now : CertFeed) (n : Node) (rest : List ℕ) → IsWithin old.source old.lines → BeginsNode old.source.left n rest → TakesUntil old.source now.source rest
+    → now.lines ≡ old.lines + 1 → after old.position (node_line n) ≡ Some now.position → HearsEvent old now [] (node_event n)
+unfolding collect
+node_heard old now n rest w b t lines stands =
+    let l : Line = node_line n in
+    let text : old.source.left ++ [] ≡ line_text l ++ 10 ∷ now.source.left =
+    append-nil old.source.left ∙ b.text ∙ append_assoc (line_text l) (10 ∷ []) rest ∙ ap (λ (x : List ℕ). line_text l ++ 10 ∷ x) (sym t.left) in
+    let count : now.source.count ≡ old.source.count + length {A = ℕ} [] = omega (arith, t.count) in
+    let small : now.source.count < 2 ^ 63 = omega (arith, t.count, w.count) in
+    record {
+      before = [];
+      last = l;
+      judges = record {
+        text =
+            text ∙ sym (append_assoc (line_text l) (10 ∷ []) now.source.left) ∙ ap (λ (x : List ℕ). x ++ now.source.left) (sym (append-nil (ended (line_text l))));
+        in_range = (b.in_range, tt);
+        stands = run_one old.position now.position l stands;
+        count = count;
+        number = lines;
+        within = subst (λ (k : ℕ). IsWithin now.source k) (sym lines) (line_within old.source now.source old.lines [] (line_text l) w text count small);
+      };
+      none = refl;
+      hears = node_hears n;
+      few = let few = t.few in omega (arith, few, ap (length {A = ℕ}) t.left);
+    }
 
 -- a line that is refused
 pub event_refused : {F : Type 0} {files : F → Files} {r w g : F → List ℕ → ℕ} {name : List ℕ} {old now : CertFeed} {a b : F} {heard : Heard} (n : List ℕ) (why : Option CertRefusal)

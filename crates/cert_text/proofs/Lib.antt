@@ -4,10 +4,13 @@ pub mod Law
 pub mod Whole
 pub mod Events
 pub mod Runs
+pub mod Numbers
+pub mod NodeTexts
 pub mod Wide
 pub mod Spelled
 pub mod Cuts
 pub mod Read
+pub mod Fronts
 pub mod Texts
 pub mod Refusals
 pub mod Build

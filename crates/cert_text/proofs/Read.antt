@@ -21,7 +21,7 @@ use Rattle.cert_text.proofs.Wide.{digits_of_decimal, wide_back}
 -- ---- numbers
 
 -- a number is said by its decimal
-number_back : (n : ℕ) → n < 2 ^ 64 → number_of (decimal n) ≡ Some n
+pub number_back : (n : ℕ) → n < 2 ^ 64 → number_of (decimal n) ≡ Some n
 number_back n small = decimal_of-decimal 0 18446744073709551615 n (omega arith) (omega arith) (omega arith)
 
 -- so are numbers
@@ -34,7 +34,7 @@ some_back : (ns : List ℕ) → 1 ≤ length ns → AreNumbers ns → some_numbe
 some_back ns some small = rw (length-map, le-leb _ _ some) (numbers_back ns small)
 
 -- a number is no slash
-not_slash : (n : ℕ) → n < 2 ^ 64 → bytes_eq (decimal n) (codes "/") ≡ false
+pub not_slash : (n : ℕ) → n < 2 ^ 64 → bytes_eq (decimal n) (codes "/") ≡ false
 not_slash n small = by (bytes_eq (decimal n) (codes "/")) refl
   where
     by : (b : Bool) → bytes_eq (decimal n) (codes "/") ≡ b → b ≡ false
@@ -87,11 +87,11 @@ words_back line.EndLine range = refl
 -- ---- no space and no line's end in a word
 
 -- the word is without the byte
-abbrev Clean : ℕ → List ℕ → Type 0
+abbrev pub Clean : ℕ → List ℕ → Type 0
 Clean byte w = free byte w ≡ true
 
 -- a decimal is without a byte below its digits
-decimal_clean : (byte n : ℕ) → byte < 47 → n < 2 ^ 128 → Clean byte (decimal n)
+pub decimal_clean : (byte n : ℕ) → byte < 47 → n < 2 ^ 128 → Clean byte (decimal n)
 decimal_clean byte n low small = digits_free byte (decimal n) (omega arith) (digits_of_decimal n small)
 
 -- so are decimals

@@ -1,15 +1,16 @@
 -- The pieces of runs.
-use Rattle.std.proofs.Common.{◌≡◌, ◌<◌, ◌≤◌, ℕ, zero, suc, ◌+◌, ◌-◌, ◌==◌, get_or, take, List, [], ◌∷◌, ◌++◌, length, true, Some, refl, sym, ap, ◌∙◌, append_assoc, append-nil, replicate, arith}
+use Rattle.std.proofs.Common.{◌≡◌, ◌<◌, ◌≤◌, ℕ, zero, suc, ◌+◌, ◌-◌, ◌==◌, get_or, set, take, List, [], ◌∷◌, ◌++◌, length, Bool, true, cond, nat_lt, Some, None, refl, sym, ap, ◌∙◌, append_assoc, append-nil, replicate, arith}
 use Rattle.std.specs.List.{list_all}
 use Rattle.std.specs.Option.{option_map}
-use Rattle.std.proofs.lemmas.Bool.{and_parts, eq-eqb, eqb-true}
-use Rattle.std.proofs.lemmas.List.{take_more}
+use Rattle.std.proofs.lemmas.Bool.{and_parts, eq-eqb, eqb-true, lt-ltb}
+use Rattle.std.proofs.lemmas.List.{length-set, set-append_left, take_all, take_more, take_more_set}
 use Rattle.cert_text.specs.declared.symbol.Symbol.{Symbol}
 use Rattle.cert_text.specs.declared.symbol.Symbol.TheVariants as symbol
 use Rattle.cert_text.specs.Depths.{depth_of}
 use Rattle.cert_text.specs.declared.position.Run.{Run}
 use Rattle.cert_text.specs.declared.position.Next.{Next}
 use Rattle.cert_text.specs.declared.line.Line.{Line}
+use Rattle.cert_text.specs.declared.line.Line.TheVariants as line
 use Rattle.cert_text.specs.Grammar.{after, expand}
 use Rattle.cert_text.specs.Pieces.{next_pieces, of_run, pieces}
 
@@ -18,6 +19,42 @@ pub pieces_push : (rs : List Run) (r : Run) → pieces (rs ++ r ∷ []) ≡ of_r
 unfolding pieces
 pieces_push [] r = sym (append-nil (of_run r))
 pieces_push (x ∷ rs) r = ap (λ ps. ps ++ of_run x) (pieces_push rs r) ∙ append_assoc (of_run r) (pieces rs) (of_run x)
+
+-- the pieces of runs, by the last one
+pub pieces_last : (rs : List Run) (last : ℕ) (r : Run) → last + 1 ≡ length rs → r ≡ get_or rs last r → pieces rs ≡ of_run r ++ pieces (take last rs)
+pieces_last rs last r e is =
+    let all : take (last + 1) rs ≡ rs = take_all (last + 1) rs (omega arith) in
+    ap pieces (sym all ∙ take_more rs last r (omega arith) ∙ ap (λ (x : Run). take last rs ++ x ∷ []) (sym is)) ∙ pieces_push (take last rs) r
+
+-- with a run in the place of the last one
+pub pieces_set : (rs : List Run) (last : ℕ) (r : Run) → last + 1 ≡ length rs → pieces (set rs last r) ≡ of_run r ++ pieces (take last rs)
+pieces_set rs last r e =
+    let long : length (set rs last r) ≡ length rs = length-set rs last r in
+    let all : take (last + 1) (set rs last r) ≡ set rs last r = take_all (last + 1) (set rs last r) (omega arith) in
+    ap pieces (sym all ∙ take_more_set rs last r (omega arith)) ∙ pieces_push (take last rs) r
+
+-- with two in its place
+pub pieces_two : (rs : List Run) (last : ℕ) (subtrees r : Run) → last + 1 ≡ length rs
+    → pieces (set (rs ++ subtrees ∷ []) last r) ≡ of_run subtrees ++ (of_run r ++ pieces (take last rs))
+pieces_two rs last subtrees r e =
+    ap pieces (set-append_left rs (subtrees ∷ []) last r (omega arith)) ∙ pieces_push (set rs last r) subtrees
+    ∙ ap (λ ps. of_run subtrees ++ ps) (pieces_set rs last r e)
+
+-- a run of none in its place
+pub pieces_none_last : (rest : List Symbol) (r : Run) → r.count ≡ 0 → rest ≡ of_run r ++ rest
+pieces_none_last rest r e = sym (ap (λ (n : ℕ). replicate n r.symbol ++ rest) e)
+
+-- the next piece of runs is that of the last one
+pub last_first : (rs : List Run) (last : ℕ) (r rest : Run) (now : List Symbol) → last + 1 ≡ length rs → r ≡ get_or rs last r → of_run r ≡ r.symbol ∷ of_run rest
+    → now ≡ of_run rest ++ pieces (take last rs) → pieces rs ≡ r.symbol ∷ now
+last_first rs last r rest now e is first now_is =
+    pieces_last rs last r e is ∙ ap (λ (ps : List Symbol). ps ++ pieces (take last rs)) first ∙ ap (λ (ps : List Symbol). r.symbol ∷ ps) (sym now_is)
+
+-- a last run of none adds nothing
+pub last_nothing : (rs : List Run) (last : ℕ) (r : Run) → last + 1 ≡ length rs → r ≡ get_or rs last r → r.count ≤ 0 → pieces rs ≡ pieces (take last rs)
+last_nothing rs last r e is none =
+    let empty : r.count ≡ 0 = omega arith in
+    pieces_last rs last r e is ∙ sym (pieces_none_last (pieces (take last rs)) r empty)
 
 -- runs of none have no pieces
 pub pieces_none : (rs : List Run) → list_all (λ r. r.count == 0) rs ≡ true → pieces rs ≡ []
@@ -46,14 +83,6 @@ none_pieces (r ∷ rs) e =
     let both = append_none (pieces rs) (of_run r) e in
     rw (eq-eqb r.count 0 (run_none r.symbol r.count both.1)) (none_pieces rs both.0)
 
--- the next piece of a run that is last
-pub run_first : (rs : List Run) (r : Run) (left : List Symbol) → 0 < r.count → left ≡ of_run (record { symbol = r.symbol; count = r.count - 1 }) ++ pieces rs → pieces (rs ++ r ∷ []) ≡ r.symbol ∷ left
-run_first rs r left some e = pieces_push rs r ∙ ap (λ ps. ps ++ pieces rs) (by r.symbol r.count some) ∙ ap (λ x. r.symbol ∷ x) (sym e)
-  where
-    by : (s : Symbol) (n : ℕ) → 0 < n → replicate n s ≡ s ∷ replicate (n - 1) s
-    by s zero some = absurd (omega arith)
-    by s (suc n) some = let less : suc n - 1 ≡ n = omega arith in rw less refl
-
 -- a run of none adds nothing
 pub run_nothing : (rs : List Run) (r : Run) → r.count ≡ 0 → pieces (rs ++ r ∷ []) ≡ pieces rs
 run_nothing rs r e = pieces_push rs r ∙ ap (λ n. replicate n r.symbol ++ pieces rs) e
@@ -63,6 +92,21 @@ pub after_next : (before between second first : List Symbol) (s : Symbol) (l : L
     → second ≡ of_run n.second ++ between → first ≡ of_run n.first ++ second → after before l ≡ Some first
 after_next before between second first s l n a b c d =
     ap (λ x. after x l) a ∙ ap (option_map (λ more. more ++ between)) (sym b) ∙ ap (λ x. Some x) (append_assoc (of_run n.first) (of_run n.second) between ∙ ap (λ x. of_run n.first ++ x) (sym c) ∙ sym d)
+
+-- what is to come after the line of an inner node
+pub after_inner : (before rest now : List Symbol) (marks : Bool) (depth n : ℕ) → before ≡ symbol.TreeAt marks depth ∷ rest → depth < 128
+    → now ≡ of_run (record { symbol = symbol.TreeAt marks (depth + 1); count = n }) ++ rest → after before (line.InnerLine n) ≡ Some now
+after_inner before rest now marks depth n was room is =
+    let high : nat_lt depth 128 ≡ true = lt-ltb depth 128 room in
+    let deeper : depth + 1 ≡ suc depth = omega arith in
+    ap (λ (x : List Symbol). after x (line.InnerLine n)) was
+    ∙ ap (λ (b : Bool). option_map (λ (more : List Symbol). more ++ rest) (cond b (Some (replicate n (symbol.TreeAt marks (suc depth)))) None)) high
+    ∙ ap (λ (k : ℕ). Some (replicate n (symbol.TreeAt marks k) ++ rest)) (sym deeper) ∙ ap (λ (x : List Symbol). Some x) (sym is)
+
+-- what is to come after the line of a leaf
+pub after_leaf : (before now : List Symbol) (l : Line) (marks : Bool) (depth : ℕ) → before ≡ symbol.TreeAt marks depth ∷ now → expand (symbol.TreeAt marks depth) l ≡ Some []
+    → after before l ≡ Some now
+after_leaf before now l marks depth was none = ap (λ (x : List Symbol). after x l) was ∙ ap (option_map (λ (more : List Symbol). more ++ now)) none
 
 -- no runs have no pieces
 pub pieces_empty : (rs : List Run) → length rs ≡ 0 → pieces rs ≡ []

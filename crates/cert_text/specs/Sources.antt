@@ -79,6 +79,12 @@ pub record TakesHere (old now : Held) (before line : List ℕ) (has_end : Bool) 
   pub found : has_end ≡ true → (old.left ≡ front ++ 10 ∷ now.left) × (length now.left < 65536)
   pub none : has_end ≡ false → old.left ≡ front
 
+-- all up to these bytes was taken, a byte at least
+pub record TakesUntil (old now : Held) (rest : List ℕ) : Type 0 where
+  pub left : now.left ≡ rest
+  pub count : now.count ≡ old.count
+  pub few : length rest < 65536
+
 -- the next line was taken, or there is no LF up to the file's end
 pub record TakesLine (files : Files) (name : List ℕ) (old now : Held) (more line : List ℕ)
     (has_end : Bool) : Type 0 where

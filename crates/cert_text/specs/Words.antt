@@ -1,5 +1,6 @@
 -- The line that words say.
-use Rattle.std.specs.Prelude.{ℕ, ◌^◌, ◌&&◌, List, [], ◌∷◌, length, codes, nat_le, nat_lt, Option, Some, None, if◌then◌else◌}
+use Rattle.std.specs.Prelude.{◌≡◌, ◌<◌, ◌++◌, map, decimal, ℕ, ◌^◌, ◌&&◌, List, [], ◌∷◌, length, codes, nat_le, nat_lt, Option, Some, None, if◌then◌else◌}
+use Rattle.std.specs.List.{AllByRecursion}
 use Rattle.std.specs.Option.{option_and_then, option_map}
 use Rattle.std.specs.Str.{bytes_eq}
 use Rattle.csv_table.specs.Decimal.{decimal_of, is_decimal, value_after}
@@ -28,6 +29,11 @@ numbers_of (word ∷ others) =
 -- at least one number
 abbrev pub some_numbers : List (List ℕ) → Option (List ℕ)
 some_numbers ws = if nat_le 1 (length ws) then numbers_of ws else None
+
+-- the first words are these numbers, and the others those of the bytes that are left
+pub record BeginsNumbers (text ns left : List ℕ) : Type 0 where
+  pub words : parts 32 text ≡ map decimal ns ++ parts 32 left
+  pub small : AllByRecursion (λ n. n < 2 ^ 64) ns
 
 -- the numbers before the first word that is a slash, and the words after it
 abbrev pub before_slash : List (List ℕ) → Option (List ℕ × List (List ℕ))

@@ -6,6 +6,7 @@ use crate::event::Event;
 use crate::fault::FeedFault;
 use crate::hearing::Hearing;
 use crate::judge::judge;
+use crate::node::node_in;
 use crate::position::Position;
 use crate::source::Source;
 use pack_base::Folder;
@@ -33,14 +34,14 @@ fn ends(answer: &Result<Event, FeedFault>) -> bool
 }
 
 impl CertFeed {
-    ghost use Rattle.std.specs.Prelude.{◌+◌, ℕ, List, Option, None, Some, Result, Ok, Err, IfOk, ◌++◌};
+    ghost use Rattle.std.specs.Prelude.{◌+◌, ℕ, List, Option, None, Some, Result, Ok, Err, IfOk, IfSome, ◌++◌};
     ghost use Rattle.pack_base.specs.Outside.{Later, SameFaults};
     ghost use Rattle.pack_base.specs.Counts.{Rose};
     ghost use Rattle.cert_text.specs.Depths.{IsWithin};
     ghost use Rattle.cert_text.specs.Heard.{heard_by};
     ghost use Rattle.cert_text.specs.Sources.{Reads, broke, cause, text_refusal};
     ghost use Rattle.cert_text.specs.Given.{Feeds, Given, HasGiven, IsAnswerOf};
-    ghost use Rattle.cert_text.specs.Judging.{Finishes, OneEvent, OneLine, RefusesBad};
+    ghost use Rattle.cert_text.specs.Judging.{Finishes, HearsEvent, OneEvent, OneLine, RefusesBad};
 
     /// A feed before the first byte of a file.
     pub fn new(alloc: Global) -> Result<CertFeed, Memory>
@@ -102,8 +103,27 @@ impl CertFeed {
         Ok(hearing.hear(self.alloc, line)?)
     }
 
+    // The event of a line that tells a node whole, where that line stands in the piece of the file. None, and no
+    // change, where it may be another line, or can't stand.
+    fn hear_node(&mut self) -> Option<Event>
+        requires within { IsWithin self.old.source self.old.lines }
+        requires closed { self.old.ended ≡ true }
+        ensures heard { IfSome result (λ e. HearsEvent self.old self.new [] e) }
+        ensures kept { result ≡ None → self.new ≡ self.old }
+        ensures closed { self.new.ended ≡ true }
+    {
+        let (node, after) = node_in(self.source.ahead())?;
+        let after = after.len();
+        if !self.position.take_node(node) {
+            return None;
+        }
+        self.source.take_until(after);
+        self.lines += 1;
+        Some(node.event(self.alloc))
+    }
+
     // Judges lines up to the next event.
-    fn hear_event<F: Folder>(&mut self, folder: &mut F, name: &str) -> Result<Event, FeedFault>
+    fn hear_lines<F: Folder>(&mut self, folder: &mut F, name: &str) -> Result<Event, FeedFault>
         requires within { IsWithin self.old.source self.old.lines }
         requires closed { self.old.ended ≡ true }
         ensures event { (more : List ℕ)
@@ -120,6 +140,22 @@ impl CertFeed {
             }
             hearing = heard;
         }
+    }
+
+    // The next event.
+    fn hear_event<F: Folder>(&mut self, folder: &mut F, name: &str) -> Result<Event, FeedFault>
+        requires within { IsWithin self.old.source self.old.lines }
+        requires closed { self.old.ended ≡ true }
+        ensures event { (more : List ℕ)
+            × Reads F.files F.read_faults F.write_faults F.given name.now self.old.source.count
+            folder.old folder.new (broke result) more
+            × OneEvent (F.files folder.old) name.now self.old self.new more result }
+        ensures closed { self.new.ended ≡ true }
+    {
+        if let Some(event) = self.hear_node() {
+            return Ok(event);
+        }
+        self.hear_lines(folder, name)
     }
 
     // The certificate ends, if nothing follows.

@@ -13,6 +13,8 @@ mod hearing;
 mod judge;
 mod line;
 mod lines;
+mod node;
+mod number;
 mod parts;
 mod position;
 mod reading;

@@ -1,14 +1,16 @@
 //! Where a reader stands in a certificate.
-ghost use Rattle.std.specs.Prelude.{◌≡◌, ◌++◌, ◌∷◌, [], OnOk, IfOk, IfSome, Some, None, IsTrue, ◌↔◌, if◌then◌else◌};
+ghost use Rattle.std.specs.Prelude.{◌≡◌, ◌<◌, ◌+◌, false, take, vec_len, ◌++◌, ◌∷◌, [], OnOk, IfOk, IfSome, Some, None, IsTrue, ◌↔◌, if◌then◌else◌};
 ghost use Rattle.std.specs.Option.{option_map};
 ghost use Rattle.std.specs.Prelude.{◌⊎◌, ◌==◌};
 ghost use Rattle.std.specs.List.{list_all};
 ghost use Rattle.cert_text.specs.declared.symbol.Symbol.TheVariants as symbol;
 ghost use Rattle.cert_text.specs.Depths.{depth_of};
 ghost use Rattle.cert_text.specs.Grammar.{after, body, expand, marked_tree, start, subtrees};
+ghost use Rattle.cert_text.specs.Nodes.{node_line};
 ghost use Rattle.cert_text.specs.Pieces.{next_pieces, of_run, pieces};
 
 use crate::line::Line;
+use crate::node::Node;
 use crate::parts::Kind;
 use crate::symbol::Symbol;
 use pack_model::Memory;
@@ -176,24 +178,61 @@ fn put(runs: &mut Vec<Run>, run: Run) -> Result<(), Memory>
     Ok(())
 }
 
-// Takes the next piece, if there is one.
-fn take_first(runs: &mut Vec<Run>) -> Result<Option<Symbol>, Memory>
-    ensures none { IfOk result (λ s. s ≡ None → pieces runs.old.items ≡ []) }
-    ensures some { IfOk result (λ s. IfSome s (λ x. pieces runs.old.items ≡ x ∷ pieces runs.new.items)) }
+// A run without its first piece.
+fn less_first(run: Run) -> Run
+    requires { 0 < run.count }
+    ensures { of_run run ≡ run.symbol ∷ of_run result }
 {
-    while let Some(run) = runs.pop() {
-        if run.count > 0 {
-            put(
-                runs,
-                Run {
-                    symbol: run.symbol,
-                    count: run.count - 1,
-                },
-            )?;
-            return Ok(Some(run.symbol));
-        }
+    Run {
+        symbol: run.symbol,
+        count: run.count - 1,
     }
-    Ok(None)
+}
+
+// Puts a run in the place of the last one.
+fn put_last(runs: &mut Vec<Run>, last: usize, run: Run)
+    requires { last + 1 ≡ vec_len runs.old }
+    ensures { pieces runs.new.items ≡ of_run run ++ pieces (take last runs.old.items) }
+{
+    if run.count > 0 {
+        runs[last] = run;
+    } else {
+        runs.truncate(last);
+    }
+}
+
+// Puts subtrees and a run in the place of the last one. Changes nothing where memory runs out.
+fn put_subtrees(runs: &mut Vec<Run>, last: usize, subtrees: Run, run: Run) -> bool
+    requires { last + 1 ≡ vec_len runs.old }
+    ensures put { IsTrue result
+        → pieces runs.new.items ≡ of_run subtrees ++ (of_run run ++ pieces (take last runs.old.items)) }
+    ensures kept { result ≡ false → runs.new.items ≡ runs.old.items }
+{
+    if run.count == 0 {
+        runs[last] = subtrees;
+        return true;
+    }
+    let Ok(()) = runs.push(subtrees) else {
+        return false;
+    };
+    runs[last] = run;
+    true
+}
+
+// Takes the next piece, if there is one.
+fn take_first(runs: &mut Vec<Run>) -> Option<Symbol>
+    ensures none { result ≡ None → pieces runs.old.items ≡ [] }
+    ensures some { IfSome result (λ x. pieces runs.old.items ≡ x ∷ pieces runs.new.items) }
+{
+    while let Some(last) = runs.len().checked_sub(1) {
+        let run = runs[last];
+        if run.count > 0 {
+            put_last(runs, last, less_first(run));
+            return Some(run.symbol);
+        }
+        runs.truncate(last);
+    }
+    None
 }
 
 // How many inner nodes lack subtrees where this piece comes next.
@@ -243,7 +282,7 @@ impl Position {
         ensures taken { IfOk result (λ can. IsTrue can → after self.old line.now ≡ Some self.new) }
         ensures refused { IfOk result (λ can. IsTrue can ⊎ (after self.old line.now ≡ None)) }
     {
-        let Some(symbol) = take_first(&mut self.runs)? else {
+        let Some(symbol) = take_first(&mut self.runs) else {
             return Ok(false);
         };
         let Some(next) = next_of(symbol, line) else {
@@ -252,6 +291,35 @@ impl Position {
         put(&mut self.runs, next.second)?;
         put(&mut self.runs, next.first)?;
         Ok(true)
+    }
+
+    /// Goes past the line of a node, where a tree may stand. Nothing changes where that isn't told, or for want of memory.
+    pub fn take_node(&mut self, node: Node) -> bool
+        ensures taken { IsTrue result → after self.old (node_line node) ≡ Some self.new }
+        ensures kept { result ≡ false → self.new ≡ self.old }
+    {
+        let Some(last) = self.runs.len().checked_sub(1) else {
+            return false;
+        };
+        let run = self.runs[last];
+        let Symbol::TreeAt(marks, depth) = run.symbol else {
+            return false;
+        };
+        if run.count == 0 {
+            return false;
+        }
+        let rest = less_first(run);
+        match node {
+            Node::Inner(count) if depth < DEEPEST => {
+                let symbol = Symbol::TreeAt(marks, depth + 1);
+                put_subtrees(&mut self.runs, last, Run { symbol, count }, rest)
+            }
+            Node::Inner(_) => false,
+            Node::Bound | Node::Open | Node::Fail => {
+                put_last(&mut self.runs, last, rest);
+                true
+            }
+        }
     }
 
     /// How many inner nodes lack subtrees.

@@ -1,6 +1,6 @@
 //! The bytes of a file, read piece by piece.
-ghost use Rattle.std.specs.Prelude.{◌≡◌, ◌<◌, ◌+◌, ◌^◌, ℕ, List, IfOk, IfErr, None, length};
-ghost use Rattle.cert_text.specs.Sources.{Drains, ReadOn, Reads, TakesHere, TakesLine, broke, nothing_held, text_refusal};
+ghost use Rattle.std.specs.Prelude.{◌≡◌, ◌<◌, ◌≤◌, ◌++◌, ◌∷◌, ◌+◌, ◌^◌, ℕ, List, IfOk, IfErr, None, length};
+ghost use Rattle.cert_text.specs.Sources.{Drains, ReadOn, Reads, TakesHere, TakesLine, TakesUntil, broke, nothing_held, text_refusal};
 
 use crate::cut::cut_at;
 use crate::fault::FeedFault;
@@ -130,6 +130,22 @@ impl Source {
             nothing = false;
         }
         Ok(nothing)
+    }
+
+    /// The bytes that were read and not taken yet.
+    pub fn ahead(&self) -> &[u8]
+        ensures { result.now ≡ self.now.left }
+    {
+        &self.piece[self.from..self.upto]
+    }
+
+    /// Takes all up to these bytes, which are so many, and before which a line ends.
+    pub fn take_until(&mut self, after: usize)
+        requires { after ≤ length self.old.left }
+        ensures { (line rest : List ℕ) → self.old.left ≡ line ++ 10 ∷ rest → after ≡ length rest
+            → TakesUntil self.old self.new rest }
+    {
+        self.from = self.upto - after;
     }
 
     /// How many bytes were read and not taken yet.

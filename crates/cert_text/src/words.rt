@@ -5,16 +5,19 @@ ghost use Rattle.std.specs.Prelude.{◌&&◌};
 ghost use Rattle.std.specs.Str.{all_ascii_digits};
 ghost use Rattle.csv_table.specs.Decimal.{decimal_of, value_after};
 ghost use Rattle.cert_text.specs.CertText.{parts};
-ghost use Rattle.cert_text.specs.Words.{alone, before_slash, both_sides, fail_said, first_said, frame_said, inner_said, kind_of, kind_said, late_said, lemma_said, line_of, long_said, number_of, numbers_of, one, over_said, some_numbers, wide_of, worded};
+ghost use Rattle.cert_text.specs.Words.{BeginsNumbers, alone, before_slash, both_sides, fail_said, first_said, frame_said, inner_said, kind_of, kind_said, late_said, lemma_said, line_of, long_said, number_of, numbers_of, one, over_said, some_numbers, wide_of, worded};
 
 use crate::cut::cut_at;
 use crate::line::Line;
+use crate::number::number_until;
 use crate::parts::{FrameLine, Kind};
 use csv_table::decimal_in;
 use pack_model::{Chain, Memory};
 use response_test::Evidence;
 use std::alloc::Global;
 
+/// How many bytes a number of evidence takes about, with its blank.
+const NUMBER_SIZE: usize = 4;
 /// How many numbers the queue of a frame has at most.
 const MOST_NUMBERS: usize = 256;
 
@@ -69,12 +72,24 @@ fn push_number(numbers: &mut Vec<u64>, word: &[u8]) -> Result<bool, Memory>
     Ok(true)
 }
 
+// Numbers that these bytes begin with, and the bytes after them.
+fn first_numbers(alloc: Global, text: &[u8]) -> Result<(Vec<u64>, &[u8]), Memory>
+    ensures { IfOk result (λ x. BeginsNumbers text.now x.0.items x.1.now) }
+{
+    let mut numbers = Vec::with_capacity(alloc, text.len() / NUMBER_SIZE + 1)?;
+    let mut left = text;
+    while let Some((number, after)) = number_until(left, b' ') {
+        numbers.push(number)?;
+        left = after;
+    }
+    Ok((numbers, left))
+}
+
 // The numbers of words, where each is one.
 fn numbers_in(alloc: Global, text: &[u8]) -> Result<Option<Vec<u64>>, Memory>
     ensures { IfOk result (λ found. option_map (λ v. v.items) found ≡ some_numbers (parts 32 text.now)) }
 {
-    let mut numbers = Vec::new(alloc);
-    let mut left = text;
+    let (mut numbers, mut left) = first_numbers(alloc, text)?;
     while let Some((word, after)) = cut_at(left, b' ') {
         if !push_number(&mut numbers, word)? {
             return Ok(None);
@@ -241,8 +256,7 @@ fn sides_in(alloc: Global, text: &[u8]) -> Result<Option<(Vec<u64>, Vec<u64>)>, 
     ensures { IfOk result (λ found.
         option_map (λ p. (p.0.items, p.1.items)) found ≡ both_sides (before_slash (parts 32 text.now))) }
 {
-    let mut numbers = Vec::new(alloc);
-    let mut left = text;
+    let (mut numbers, mut left) = first_numbers(alloc, text)?;
     while let Some((word, after)) = cut_at(left, b' ') {
         if word == b"/".as_slice() {
             if numbers.is_empty() {

@@ -1,7 +1,7 @@
 use Rattle.std.proofs.Common.{◌≡◌, ◌+◌, ◌-◌, ◌^◌, length, true}
 use Rattle.cert_text.specs.Heard.{heard_by}
 use Rattle.cert_text.proofs.FeedLaws.{EventSoFar}
-use Rattle.cert_text.proofs.feed.CertFeed.hear_event.Given as goal
+use Rattle.cert_text.proofs.feed.CertFeed.hear_lines.Given as goal
 
 -- the lines so far end no event
 abbrev pub invariant-loop-heard : goal.invariant-loop-heard
