@@ -11,13 +11,8 @@ use Rattle.tree_search.specs.Flat.{count_of, flat, flat_each, flats, subtrees}
 use Rattle.tree_search.specs.Open.{HasOptions, any_goal}
 use Rattle.tree_search.specs.Shown.{agenda}
 use Rattle.tree_search.specs.Trim.{AllHaveOptions, Trims, trim, trim_each, trims}
-use Rattle.tree_search.proofs.Builds.{length-list, list_of}
+use Rattle.tree_search.proofs.Builds.{flat_each-list, length-list, list_of}
 use Rattle.tree_search.proofs.Flattens.{flats-append}
-
--- the nodes of trees are those of their list
-pub flat_each-list : (ts : Plains) → flat_each ts ≡ flats (list_of ts)
-flat_each-list none = refl
-flat_each-list (more t ts) = ap (λ xs. flat t ++ xs) (flat_each-list ts)
 
 -- the subtrees of an inner node, before other trees
 flats-subtrees : (ts : Plains) (us : List Plain) (ys : List Node)
