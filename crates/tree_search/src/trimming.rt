@@ -12,7 +12,7 @@ ghost use Rattle.tree_search.specs.Trim.{Trims, reaches, trim as trim_of};
 
 use crate::going::back;
 use crate::judge::Judge;
-use crate::node::Node;
+use crate::node::{Node, put_node};
 use crate::tree::{flatten, tree_of};
 use cert_text::Tree;
 use grouping_tree::Partial;
@@ -74,12 +74,12 @@ impl Trimming {
             (places_on items self.old.base (labels_of partial.new) self.new.next)) }
     {
         if is_cut(judge, problem, partial, value) {
-            self.kept.push(Node::Bound)?;
+            put_node(&mut self.kept, Node::Bound)?;
             self.skip = count;
             self.next = back(problem, partial, self.base);
             return Ok(());
         }
-        self.kept.push(Node::Inner(count))?;
+        put_node(&mut self.kept, Node::Inner(count))?;
         self.next = Some(0);
         Ok(())
     }
@@ -117,7 +117,7 @@ impl Trimming {
                 Ok(())
             }
             _ => {
-                self.kept.push(node)?;
+                put_node(&mut self.kept, node)?;
                 Ok(())
             }
         }
@@ -169,7 +169,7 @@ impl Trimming {
                 Ok(())
             }
             _ => {
-                self.kept.push(node)?;
+                put_node(&mut self.kept, node)?;
                 self.next = Some(option + 1);
                 Ok(())
             }

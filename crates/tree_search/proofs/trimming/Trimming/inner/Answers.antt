@@ -15,7 +15,7 @@ returns-then-is_cut-clause-gives g c = λ wanted rest trims.
     let base = c.args.self.now.base in
     let cut = reaches (g.J.Judge.bound_of c.args.judge.now problem items) c.args.value in
     let is_cut : cut old ≡ true = sym c.is_cut.ensures ∙ c.if-is_cut.true in
-    rw (c.in_ok-push.ensures.items, c.back-self.ensures.places)
+    rw (c.in_ok-put_node.ensures, c.back-self.ensures.places)
     (trims-cut items cut wanted c.args.self.now.kept.items rest (Inner c.args.count) old
     (places_left items base old) c.args.count refl is_cut trims)
 
@@ -28,6 +28,6 @@ returns-clause-gives g c = λ wanted rest trims.
     let cut = reaches (g.J.Judge.bound_of c.args.judge.now problem items) c.args.value in
     let not_cut : cut old ≡ false = sym c.is_cut.ensures ∙ c.if-is_cut.false in
     let places = ap (λ options. with_each old options ++ places_left items base old) (from-all items old) in
-    rw (c.in_ok-push-2.ensures.items, c.requires.none, places)
+    rw (c.in_ok-put_node-2.ensures, c.requires.none, places)
     (trims-keep items cut wanted c.args.self.now.kept.items rest (Inner c.args.count) old
     (places_left items base old) c.args.count refl not_cut trims)

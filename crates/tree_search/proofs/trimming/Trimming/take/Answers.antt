@@ -48,8 +48,8 @@ overflow_add-self g c =
       b.within,
     )
 
-pub returns-in_ok-push-in_default-node : goal.returns-in_ok-push-in_default-node
-returns-in_ok-push-in_default-node g c =
+pub returns-in_ok-put_node-in_default-node : goal.returns-in_ok-put_node-in_default-node
+returns-in_ok-put_node-in_default-node g c =
     let problem = c.args.problem.now in
     let items = range_of problem c.args.partial.now in
     let cut = reaches (g.J.Judge.bound_of c.args.judge.now problem items) c.args.value in
@@ -64,8 +64,8 @@ returns-in_ok-push-in_default-node g c =
       below = told.below;
       front = told.front;
       gives = λ wanted rest h.
-          trims-next_leaf items cut wanted self.kept.items c.push.new.self.items rest c.args.node self.skip
+          trims-next_leaf items cut wanted self.kept.items c.put_node.new.nodes.items rest c.args.node self.skip
           self.base (places_on items self.base (labels_of c.args.partial.now) self.next)
           (labels_of c.next_place.new.partial) c.in-Some.option told.places told.below
-          c.in_default-node.not-Inner c.in_ok-push-in_default-node.ensures.items nothing h;
+          c.in_default-node.not-Inner c.in_ok-put_node-in_default-node.ensures nothing h;
     }
