@@ -30,6 +30,7 @@ fn take_trees(alloc: Global, nodes: &mut IntoIter<Node>, count: usize) -> Result
 
 // Takes a tree from the front of some nodes in preorder: an open leaf where none is left.
 #[cycle(take)]
+#[inline(always)]
 fn take_tree(alloc: Global, nodes: &mut IntoIter<Node>) -> Result<Tree, Memory>
     ensures fewer { into_iter_len nodes.new ≤ into_iter_len nodes.old }
     ensures first { IfOk result (λ tree. (t : Plain) (rest : List Node)
