@@ -1,5 +1,5 @@
 -- Trimming in preorder.
-use Rattle.std.proofs.Common.{◌≡◌, ℕ, suc, ◌+◌, ◌-◌, ◌<◌, ◌≤◌, List, [], ◌∷◌, ◌++◌, length, Bool, true, false, cond, refl, sym, ap, ◌∙◌, append_assoc, append-nil, length-append, arith}
+use Rattle.std.proofs.Common.{◌≡◌, ℕ, suc, ◌+◌, ◌-◌, ◌<◌, ◌≤◌, List, [], ◌∷◌, ◌++◌, length, Bool, true, false, cond, Some, refl, sym, ap, ◌∙◌, append_assoc, append-nil, length-append, arith}
 use Rattle.pack_model.specs.declared.item.Item.{Item}
 use Rattle.cert_text.specs.Trees.{Plain, Plains, bound, fail, inner, left, more, none}
 use Rattle.grouping_tree.specs.Partial.{options_of}
@@ -9,15 +9,12 @@ use Rattle.tree_search.specs.declared.node.Node.{Node}
 use Rattle.tree_search.specs.declared.node.Node.TheVariants.{Inner, Bound, Left, Fail}
 use Rattle.tree_search.specs.Flat.{count_of, flat, flat_each, flats, subtrees}
 use Rattle.tree_search.specs.Open.{HasOptions, any_goal}
+use Rattle.tree_search.specs.Going.{places_on}
 use Rattle.tree_search.specs.Shown.{agenda}
+use Rattle.tree_search.proofs.Goings.{back-places}
 use Rattle.tree_search.specs.Trim.{AllHaveOptions, Trims, trim, trim_each, trims}
-use Rattle.tree_search.proofs.Builds.{length-list, list_of}
+use Rattle.tree_search.proofs.Builds.{flat_each-list, length-list, list_of}
 use Rattle.tree_search.proofs.Flattens.{flats-append}
-
--- the nodes of trees are those of their list
-pub flat_each-list : (ts : Plains) → flat_each ts ≡ flats (list_of ts)
-flat_each-list none = refl
-flat_each-list (more t ts) = ap (λ xs. flat t ++ xs) (flat_each-list ts)
 
 -- the subtrees of an inner node, before other trees
 flats-subtrees : (ts : Plains) (us : List Plain) (ys : List Node)
@@ -146,16 +143,6 @@ module _ (items : List Item) where
             length-append (flats h.passed) (flats h.trees),
           )
 
-      -- a node that is not passed over is at a place
-      pub trims-some : (all : List Node) (node : Node) → all ≡ node ∷ rest
-          → Trims items cut wanted kept all 0 [] → ⊥
-      trims-some all node is h =
-          missing h.trees h.options (sym is ∙ trees-left h.passed h.trees all h.parts h.skip_is)
-        where
-          missing : (trees : List Plain) → AllHaveOptions items [] trees → node ∷ rest ≡ flats trees → ⊥
-          missing [] c e = cc
-          missing (t ∷ ts) c e = c
-
       module _ (node : Node) (p : List ℕ) (ps : List (List ℕ)) where
         -- an inner node that is cut
         pub trims-cut : (n : ℕ) → node ≡ Inner n → cut p ≡ true
@@ -257,19 +244,6 @@ module _ (items : List Item) where
             go (left ∷ us) c w e = same Left us c.1 w e
             go (fail named ∷ us) c w e = same (Fail named) us c.1 w e
 
-        -- an item is left at an inner node
-        pub trims-left : (n : ℕ) → node ≡ Inner n → Trims items cut wanted kept (node ∷ rest) 0 (p ∷ ps)
-            → length p < length items
-        trims-left n is h = go h.trees h.options (trees-left h.passed h.trees (node ∷ rest) h.parts h.skip_is)
-          where
-            go : (trees : List Plain) → AllHaveOptions items (p ∷ ps) trees → node ∷ rest ≡ flats trees
-                → length p < length items
-            go [] c e = cc
-            go (inner ts ∷ us) c e = c.0.0
-            go (bound ∷ us) c e = cc
-            go (left ∷ us) c e = cc
-            go (fail named ∷ us) c e = cc
-
     -- at the end all is trimmed
     pub trims-end : (wanted kept : List Node) (skip : ℕ) (places : List (List ℕ))
         → Trims items cut wanted kept [] skip places → wanted ≡ kept
@@ -277,13 +251,6 @@ module _ (items : List Item) where
         let nothing : h.trees ≡ [] = no-trees h.trees (both_nil (flats h.passed) (flats h.trees) h.parts) in
         h.wanted_is ∙ ap (λ ts. kept ++ flats (trims items cut places ts)) nothing
         ∙ ap (λ ts. kept ++ flats ts) (trims-nil places) ∙ append-nil kept
-
-    -- and no place is still to come
-    pub trims-done : (wanted kept : List Node) (skip : ℕ) (p : List ℕ) (ps : List (List ℕ))
-        → Trims items cut wanted kept [] skip (p ∷ ps) → ⊥
-    trims-done wanted kept skip p ps h =
-        let nothing : h.trees ≡ [] = no-trees h.trees (both_nil (flats h.passed) (flats h.trees) h.parts) in
-        rw nothing at h.options
 
     -- the whole tree is to be trimmed at first
     pub trims-start : (nodes : List Node) (p : List ℕ) (t : Plain)
@@ -298,27 +265,14 @@ module _ (items : List Item) where
       wanted_is = sym (append-nil (flat (trim items cut p t)));
     }
 
--- where none is passed over, some place is still to come, and an item is left at an inner node there
-pub trims-open : (items : List Item) (cut : List ℕ → Bool) (wanted kept rest : List Node) (node : Node)
-    (base : ℕ) (labels : List ℕ) (is_open : Bool)
-    → Trims items cut wanted kept (node ∷ rest) 0 (agenda items base labels is_open) → is_open ≡ true
-trims-open items cut wanted kept rest node base labels true h = refl
-trims-open items cut wanted kept rest node base labels false h =
-    absurd (trims-some items cut wanted kept rest (node ∷ rest) node refl h)
-
-pub trims-inner : (items : List Item) (cut : List ℕ → Bool) (wanted kept rest : List Node) (node : Node)
-    (base : ℕ) (labels : List ℕ) (is_open : Bool) (n : ℕ)
-    → node ≡ Inner n → Trims items cut wanted kept (node ∷ rest) 0 (agenda items base labels is_open)
-    → length labels < length items
-trims-inner items cut wanted kept rest node base labels true n is h =
-    trims-left items cut wanted kept rest node labels (places_left items base labels) n is h
-trims-inner items cut wanted kept rest node base labels false n is h =
-    absurd (trims-some items cut wanted kept rest (node ∷ rest) node refl h)
-
--- at the end no place is still to come
-pub trims-closed : (items : List Item) (cut : List ℕ → Bool) (wanted kept : List Node) (skip base : ℕ)
-    (labels : List ℕ) (is_open : Bool)
-    → Trims items cut wanted kept [] skip (agenda items base labels is_open) → is_open ≡ false
-trims-closed items cut wanted kept skip base labels true h =
-    absurd (trims-done items cut wanted kept skip labels (places_left items base labels) h)
-trims-closed items cut wanted kept skip base labels false h = refl
+-- a leaf is read at the option that comes next
+pub trims-next_leaf : (items : List Item) (cut : List ℕ → Bool) (wanted kept kept' rest : List Node)
+    (node : Node) (skip base : ℕ) (places : List (List ℕ)) (labels : List ℕ) (option : ℕ)
+    → places ≡ agenda items base (labels ++ option ∷ []) true → base ≤ length labels
+    → ((n : ℕ) → node ≡ Inner n → ⊥) → kept' ≡ kept ++ node ∷ [] → skip ≡ 0
+    → Trims items cut wanted kept (node ∷ rest) skip places
+    → Trims items cut wanted kept' rest skip (places_on items base labels (Some (option + 1)))
+trims-next_leaf items cut wanted kept kept' rest node skip base places labels option next le leaf pushed nothing h =
+    let p = labels ++ option ∷ [] in
+    rw (pushed, nothing, back-places items base p labels option option refl refl le)
+    (trims-leaf items cut wanted kept rest node p (places_left items base p) leaf (rw (nothing, next) at h))

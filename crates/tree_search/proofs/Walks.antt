@@ -12,9 +12,9 @@ use Rattle.tree_search.specs.Flat.{IsClosed, count_of, flat, flat_each, flats}
 use Rattle.tree_search.specs.Open.{HasOptions, any_goal}
 use Rattle.tree_search.specs.Shown.{Shows, agenda}
 use Rattle.tree_search.specs.Trim.{AllHaveOptions}
-use Rattle.tree_search.proofs.Builds.{list_of}
+use Rattle.tree_search.proofs.Builds.{flat_each-list, list_of}
 use Rattle.tree_search.proofs.Flattens.{flats-append}
-use Rattle.tree_search.proofs.Trims.{flat_each-list, options-children}
+use Rattle.tree_search.proofs.Trims.{options-children}
 use Rattle.tree_search.specs.Walks.{EndsOpen, Walks, opens}
 
 module _ (items : List Item) where

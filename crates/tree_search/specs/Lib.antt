@@ -1,4 +1,3 @@
-pub mod Build
 pub mod Count
 pub mod Flat
 pub mod Going

@@ -9,7 +9,7 @@ ghost use Rattle.tree_search.specs.Shown.{GoesOn, IsAt, IsOf, items_of, start_of
 ghost use Rattle.tree_search.specs.Step.{Searched, Steps};
 
 use crate::judge::Judge;
-use crate::node::Node;
+use crate::node::{Node, put_node};
 use crate::search::Search;
 use grouping_tree::Partial;
 use pack_model::{Memory, Problem};
@@ -128,7 +128,7 @@ fn pass_bounded<J: Judge>(
                 next: Some(label),
             });
         }
-        nodes.push(Node::Bound)?;
+        put_node(nodes, Node::Bound)?;
         made += 1;
         next = label + 1;
     }

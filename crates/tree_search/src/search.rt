@@ -19,7 +19,7 @@ ghost use Rattle.tree_search.specs.Trim.{reaches, trim as trim_of};
 use crate::finding::{Finding, Found};
 use crate::going::back;
 use crate::judge::Judge;
-use crate::node::Node;
+use crate::node::{Node, put_node};
 use crate::tree::tree_of;
 use crate::trimming::trim;
 use cert_text::Tree;
@@ -151,7 +151,7 @@ impl Search {
             places_on (items_of problem.now self.old) self.old.base (labels_of self.new.partial) from
             ≡ places_left (items_of problem.now self.old) self.old.base (labels_of self.old.partial)) }
     {
-        self.nodes.push(node)?;
+        put_node(&mut self.nodes, node)?;
         let from = back(problem, &mut self.partial, self.base);
         Ok(from)
     }
@@ -205,7 +205,7 @@ impl Search {
             ++ places_left (items_of problem.now self.old) self.old.base (labels_of self.old.partial)) }
     {
         let count = self.partial.options(problem);
-        self.nodes.push(Node::Inner(count as usize))?;
+        put_node(&mut self.nodes, Node::Inner(count as usize))?;
         Ok(Some(0))
     }
 

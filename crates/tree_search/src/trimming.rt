@@ -1,15 +1,18 @@
 //! Trimming of a flat tree.
-ghost use Rattle.std.specs.Prelude.{◌≡◌, ◌≤◌, ◌<◌, ◌-◌, ◌+◌, ◌^◌, ◌∷◌, ℕ, List, true, false, length, take, OnOk, IfOk};
+ghost use Rattle.std.specs.Prelude.{◌≡◌, ◌≤◌, ◌<◌, ◌-◌, ◌+◌, ◌^◌, ◌++◌, [], ◌∷◌, List, true, length, take, MatchOption, OnOk, IfOk, IfSome};
 ghost use Rattle.cert_text.specs.PlainTree.{plain_of};
 ghost use Rattle.cert_text.specs.Trees.{Plain};
 ghost use Rattle.grouping_tree.specs.Grouped.{Belongs, labels_of, range_of, room_of};
+ghost use Rattle.grouping_tree.specs.Partial.{IsPartial};
 ghost use Rattle.tree_search.specs.Flat.{flat, subtrees};
+ghost use Rattle.tree_search.specs.Going.{places_on};
 ghost use Rattle.tree_search.specs.Open.{HasOptions};
 ghost use Rattle.tree_search.specs.Shown.{agenda};
 ghost use Rattle.tree_search.specs.Trim.{Trims, reaches, trim as trim_of};
 
+use crate::going::back;
 use crate::judge::Judge;
-use crate::node::Node;
+use crate::node::{Node, put_node};
 use crate::tree::{flatten, tree_of};
 use cert_text::Tree;
 use grouping_tree::Partial;
@@ -21,8 +24,8 @@ use std::alloc::Global;
 struct Trimming {
     // The number of labels at the root.
     base: usize,
-    // Some place is still to come.
-    open: bool,
+    // The label from which the options at the partial grouping come next; none where all places are done.
+    next: Option<u32>,
     // How many trees are to be passed over.
     skip: usize,
     // The nodes that are kept.
@@ -42,8 +45,47 @@ impl Trimming {
         }
     }
 
-    // Reads the node at the place, where none is passed over.
-    fn read<J: Judge>(
+    // Reads an inner node of so many subtrees at the place, where none is passed over.
+    fn inner<J: Judge>(
+        &mut self,
+        judge: &J,
+        problem: &Problem,
+        partial: &mut Partial,
+        value: u128,
+        count: usize,
+    ) -> Result<(), Memory>
+        requires belongs { Belongs problem.now partial.old }
+        requires suits { J.suits judge.now problem.now (range_of problem.now partial.old) }
+        requires below { self.old.base ≤ length (labels_of partial.old) }
+        requires none { self.old.skip ≡ 0 }
+        ensures belongs { Belongs problem.now partial.new }
+        ensures range { range_of problem.now partial.new ≡ range_of problem.now partial.old }
+        ensures room { room_of partial.new ≡ room_of partial.old }
+        ensures base { self.new.base ≡ self.old.base }
+        ensures below { self.old.base ≤ length (labels_of partial.new) }
+        ensures front { take self.old.base (labels_of partial.new)
+            ≡ take self.old.base (labels_of partial.old) }
+        ensures gives { OnOk result (let items = range_of problem.now partial.old
+            in let cut = reaches (J.bound_of judge.now problem.now items) value
+            in (wanted rest : List Node)
+            → Trims items cut wanted self.old.kept.items (Node.Inner count ∷ rest) 0
+            (agenda items self.old.base (labels_of partial.old) true)
+            → Trims items cut wanted self.new.kept.items rest self.new.skip
+            (places_on items self.old.base (labels_of partial.new) self.new.next)) }
+    {
+        if is_cut(judge, problem, partial, value) {
+            put_node(&mut self.kept, Node::Bound)?;
+            self.skip = count;
+            self.next = back(problem, partial, self.base);
+            return Ok(());
+        }
+        put_node(&mut self.kept, Node::Inner(count))?;
+        self.next = Some(0);
+        Ok(())
+    }
+
+    // Reads the node at the root, before any other.
+    fn root<J: Judge>(
         &mut self,
         judge: &J,
         problem: &Problem,
@@ -53,49 +95,35 @@ impl Trimming {
     ) -> Result<(), Memory>
         requires belongs { Belongs problem.now partial.old }
         requires suits { J.suits judge.now problem.now (range_of problem.now partial.old) }
-        requires below { self.old.base ≤ length (labels_of partial.old) }
-        requires open { self.old.open ≡ true }
+        requires whole { self.old.base ≡ length (labels_of partial.old) }
+        requires next { self.old.next ≡ None }
         requires none { self.old.skip ≡ 0 }
-        requires left { (n : ℕ) → node ≡ Node.Inner n
-            → length (labels_of partial.old) < length (range_of problem.now partial.old) }
         ensures belongs { Belongs problem.now partial.new }
         ensures range { range_of problem.now partial.new ≡ range_of problem.now partial.old }
         ensures room { room_of partial.new ≡ room_of partial.old }
         ensures base { self.new.base ≡ self.old.base }
         ensures below { self.old.base ≤ length (labels_of partial.new) }
-        ensures front { take self.old.base (labels_of partial.new)
-            ≡ take self.old.base (labels_of partial.old) }
-        ensures done { OnOk result (self.new.open ≡ false
-            → labels_of partial.new ≡ take self.old.base (labels_of partial.old)) }
+        ensures front { take self.old.base (labels_of partial.new) ≡ labels_of partial.old }
         ensures gives { OnOk result (let items = range_of problem.now partial.old
             in let cut = reaches (J.bound_of judge.now problem.now items) value
             in (wanted rest : List Node)
-            → Trims items cut wanted self.old.kept.items (node ∷ rest) 0
-            (agenda items self.old.base (labels_of partial.old) true)
+            → Trims items cut wanted self.old.kept.items (node ∷ rest) 0 (labels_of partial.old ∷ [])
             → Trims items cut wanted self.new.kept.items rest self.new.skip
-            (agenda items self.old.base (labels_of partial.new) self.new.open)) }
+            (places_on items self.old.base (labels_of partial.new) self.new.next)) }
     {
         match node {
             Node::Inner(count) => {
-                if is_cut(judge, problem, partial, value) {
-                    self.kept.push(Node::Bound)?;
-                    self.skip = count;
-                    self.open = partial.leave(problem, self.base);
-                    return Ok(());
-                }
-                self.kept.push(Node::Inner(count))?;
-                partial.enter(problem);
+                self.inner(judge, problem, partial, value, count)?;
                 Ok(())
             }
             _ => {
-                self.kept.push(node)?;
-                self.open = partial.leave(problem, self.base);
+                put_node(&mut self.kept, node)?;
                 Ok(())
             }
         }
     }
 
-    // Reads a node: of a tree that is passed over, or at the place.
+    // Reads a node: of a tree that is passed over, or at the place that comes next.
     fn take<J: Judge>(
         &mut self,
         judge: &J,
@@ -111,7 +139,7 @@ impl Trimming {
             in let cut = reaches (J.bound_of judge.now problem.now items) value
             in (wanted : List Node) × (rest : List Node) × (length rest < 2 ^ 64)
             × Trims items cut wanted self.old.kept.items (node ∷ rest) self.old.skip
-            (agenda items self.old.base (labels_of partial.old) self.old.open) }
+            (places_on items self.old.base (labels_of partial.old) self.old.next) }
         ensures belongs { Belongs problem.now partial.new }
         ensures range { range_of problem.now partial.new ≡ range_of problem.now partial.old }
         ensures room { room_of partial.new ≡ room_of partial.old }
@@ -119,23 +147,79 @@ impl Trimming {
         ensures below { self.old.base ≤ length (labels_of partial.new) }
         ensures front { take self.old.base (labels_of partial.new)
             ≡ take self.old.base (labels_of partial.old) }
-        ensures done { OnOk result
-            ((self.old.open ≡ false → labels_of partial.old ≡ take self.old.base (labels_of partial.old))
-            → self.new.open ≡ false → labels_of partial.new ≡ take self.old.base (labels_of partial.old)) }
         ensures gives { OnOk result (let items = range_of problem.now partial.old
             in let cut = reaches (J.bound_of judge.now problem.now items) value
             in (wanted rest : List Node)
             → Trims items cut wanted self.old.kept.items (node ∷ rest) self.old.skip
-            (agenda items self.old.base (labels_of partial.old) self.old.open)
+            (places_on items self.old.base (labels_of partial.old) self.old.next)
             → Trims items cut wanted self.new.kept.items rest self.new.skip
-            (agenda items self.old.base (labels_of partial.new) self.new.open)) }
+            (places_on items self.old.base (labels_of partial.new) self.new.next)) }
     {
         if self.skip > 0 {
             self.pass_over(&node);
             return Ok(());
         }
-        self.read(judge, problem, partial, value, node)?;
-        Ok(())
+        let Some(option) = next_place(problem, partial, self.base, self.next) else {
+            unreachable!()
+        };
+        match node {
+            Node::Inner(count) => {
+                partial.put(problem, option);
+                self.inner(judge, problem, partial, value, count)?;
+                Ok(())
+            }
+            _ => {
+                put_node(&mut self.kept, node)?;
+                self.next = Some(option + 1);
+                Ok(())
+            }
+        }
+    }
+}
+
+// The option that comes next, at the partial grouping from a label on or else on the way back to its first `base`
+// labels, where it stays then; none where no option is left.
+fn next_place(
+    problem: &Problem,
+    partial: &mut Partial,
+    base: usize,
+    from: Option<u32>,
+) -> Option<u32>
+    requires belongs { Belongs problem.now partial.old }
+    requires below { base ≤ length (labels_of partial.old) }
+    ensures belongs { Belongs problem.now partial.new }
+    ensures range { range_of problem.now partial.new ≡ range_of problem.now partial.old }
+    ensures room { room_of partial.new ≡ room_of partial.old }
+    ensures below { base ≤ length (labels_of partial.new) }
+    ensures front { take base (labels_of partial.new) ≡ take base (labels_of partial.old) }
+    ensures legal { IfSome result (λ option.
+        IsPartial (range_of problem.now partial.new) (labels_of partial.new ++ option ∷ [])) }
+    ensures places { let items = range_of problem.now partial.old in MatchOption result
+        (places_on items base (labels_of partial.old) from ≡ [])
+        (λ option. places_on items base (labels_of partial.old) from
+        ≡ agenda items base (labels_of partial.new ++ option ∷ []) true) }
+{
+    let mut next = from;
+    while let Some(label) = next {
+        if let Some(option) = partial.next_option(problem, label) {
+            return Some(option);
+        }
+        next = back(problem, partial, base);
+    }
+    None
+}
+
+// Takes all labels back but the first ones.
+fn restore(problem: &Problem, partial: &mut Partial, base: usize)
+    requires belongs { Belongs problem.now partial.old }
+    requires below { base ≤ length (labels_of partial.old) }
+    ensures belongs { Belongs problem.now partial.new }
+    ensures range { range_of problem.now partial.new ≡ range_of problem.now partial.old }
+    ensures room { room_of partial.new ≡ room_of partial.old }
+    ensures labels { labels_of partial.new ≡ take base (labels_of partial.old) }
+{
+    while partial.labels().len() > base {
+        partial.take_back(problem);
     }
 }
 
@@ -173,20 +257,25 @@ pub fn trim<J: Judge>(
         in (t : Plain) → flat t ≡ nodes.items → HasOptions items (labels_of partial.old) t
         → flat (trim_of items cut (labels_of partial.old) t) ≡ kept.items) }
 {
-    let mut rest = nodes;
-    rest.reverse();
+    let base = partial.labels().len();
     let mut trimming = Trimming {
-        base: partial.labels().len(),
-        open: true,
+        base,
+        next: None,
         skip: 0,
         kept: Vec::new(alloc),
     };
-    while let Some(node) = rest.pop() {
+    let mut rest = nodes.into_iter();
+    let Some(root) = rest.next() else {
+        return Ok(trimming.kept);
+    };
+    trimming.root(judge, problem, partial, value, root)?;
+    while let Some(node) = rest.next() {
         trimming.take(judge, problem, partial, value, node)?;
     }
+    restore(problem, partial, base);
     let Trimming {
         base: _base,
-        open: _open,
+        next: _next,
         skip: _skip,
         kept,
     } = trimming;

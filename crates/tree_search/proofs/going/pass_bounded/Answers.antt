@@ -1,6 +1,7 @@
-use Rattle.std.proofs.Common.{◌≡◌, true, refl, arith}
+use Rattle.std.proofs.Common.{◌≡◌, [], ◌∷◌, length, length-append, true, refl, ap, arith}
 use Rattle.grouping_tree.specs.Grouped.{labels_of, range_of}
 use Rattle.grouping_tree.proofs.Used.{classes_few, few, put_room}
+use Rattle.tree_search.specs.declared.node.Node.TheVariants.{Bound}
 use Rattle.tree_search.proofs.Goings.{passed-all, passed-more, passed-to}
 use Rattle.tree_search.proofs.going.pass_bounded.Goals as goal
 
@@ -33,11 +34,11 @@ loop-label-preserved g c =
     let is_bounded : c.is_bounded.result ≡ true = c.if-not-is_bounded.false in
     record {
       within = omega arith;
-      count = omega (arith, inv.count, c.in_ok-push.ensures.len);
+      count = omega (arith, inv.count, ap length c.in_ok-put_node.ensures, length-append c.loop-label.nodes.items (Bound ∷ []));
       gives = λ start base found x h.
           passed-more (g.J.Judge.finds c.args.judge.now problem items) items start labels base c.args.best found
-          c.loop-label.nodes.items c.push.new.self.items c.loop-label.next c.in-Some.label c.loop-label.made x
-          c.in-Some.ensures.option (c.is_bounded.ensures is_bounded) c.in_ok-push.ensures.items
+          c.loop-label.nodes.items c.put_node.new.nodes.items c.loop-label.next c.in-Some.label c.loop-label.made x
+          c.in-Some.ensures.option (c.is_bounded.ensures is_bounded) c.in_ok-put_node.ensures
           (inv.gives start base found x h);
     }
 

@@ -1,34 +1,26 @@
-use Rattle.std.proofs.Common.{◌≡◌, ◌<◌, ◌^◌, ◌∷◌, [], refl, sym, ap, ◌∙◌, arith, length, reverse}
-use Rattle.std.proofs.lemmas.List.{length-reverse, nil_from_length, reverse-append, reverse-reverse}
+use Rattle.std.proofs.Common.{◌≡◌, ◌<◌, ◌^◌, ◌∷◌, [], sym, ap, ◌∙◌, arith, length}
+use Rattle.std.proofs.lemmas.List.{nil_from_length}
+use Rattle.std.specs.Vec.Iter.{into_iter_items}
 use Rattle.grouping_tree.specs.Grouped.{labels_of, range_of}
 use Rattle.tree_search.specs.Flat.{flat}
 use Rattle.tree_search.specs.Trim.{reaches, trim}
-use Rattle.tree_search.proofs.Moves.{agenda-start, start-all}
-use Rattle.tree_search.proofs.Trims.{trims-closed, trims-end, trims-start}
+use Rattle.tree_search.proofs.Trims.{trims-end, trims-start}
 use Rattle.tree_search.proofs.trimming.trim.Goals as goal
 
 pub loop-node-init : goal.loop-node-init
 loop-node-init g c =
-    let start = labels_of c.args.partial.now in
+    let told = rw c.labels-base.ensures at c.in_ok-root.ensures in
+    let nodes_are = sym c.into_iter-rest.ensures.rest ∙ c.in-Some.ensures.items in
     record {
-      belongs = c.requires.belongs;
-      range = refl;
-      room = refl;
-      base = ap length c.labels.ensures;
-      below = omega arith;
-      front = start-all start;
-      done = λ e. cc;
+      belongs = told.belongs;
+      range = told.range;
+      room = told.room;
+      base = told.base;
+      below = told.below;
+      front = told.front;
       trims = λ wanted h.
-          rw (
-            c.new.ensures.items,
-            c.reverse.ensures.items,
-            reverse-reverse c.args.nodes.items,
-            agenda-start (range_of c.args.problem.now c.args.partial.now) start,
-          ) h;
+          told.gives wanted (into_iter_items c.next.new.self) (rw c.new.ensures.items (rw nodes_are at h));
     }
-
-pub take-requires-clause-suits : goal.take-requires-clause-suits
-take-requires-clause-suits g c = rw c.loop-node.invariant.range c.requires.suits
 
 pub take-requires-clause-trims : goal.take-requires-clause-trims
 take-requires-clause-trims g c =
@@ -39,24 +31,18 @@ take-requires-clause-trims g c =
     let t = c.requires.tree.0 in
     let wanted = flat (trim items cut start t) in
     let inv = c.loop-node.invariant in
-    let rest = c.pop.new.self.items in
+    let rest = into_iter_items c.next-in-loop-node.new.self in
     let at =
     inv.trims wanted (trims-start items cut c.args.nodes.items start t c.requires.tree.1
     c.requires.tree.2) in
-    let popped = ap reverse c.in-Some.ensures.items ∙ reverse-append rest (c.in-Some.node ∷ []) in
-    let few : length (reverse rest) < 2 ^ 64 =
-    omega (arith, length-reverse rest, c.pop.new.self.ok.0, c.pop.new.self.ok.1, c.pop.new.self.small) in
-    rw (inv.range, inv.base) (wanted, reverse rest, few, rw popped at at)
+    let left = c.next-in-loop-node.new.self.rest in
+    let few : length rest < 2 ^ 64 = omega (arith, left.ok.0, left.small.0, left.small.1) in
+    rw (inv.range, inv.base) (wanted, rest, few, rw c.in-Some-next.ensures.items at at)
 
 pub loop-node-preserved : goal.loop-node-preserved
 loop-node-preserved g c =
-    let problem = c.args.problem.now in
-    let items = range_of problem c.args.partial.now in
-    let start = labels_of c.args.partial.now in
     let inv = c.loop-node.invariant in
     let told = rw (inv.range, inv.base) at c.in_ok-take.ensures in
-    let rest = c.pop.new.self.items in
-    let popped = ap reverse c.in-Some.ensures.items ∙ reverse-append rest (c.in-Some.node ∷ []) in
     record {
       belongs = told.belongs;
       range = told.range;
@@ -64,27 +50,15 @@ loop-node-preserved g c =
       base = told.base;
       below = told.below;
       front = told.front ∙ inv.front;
-      done = λ e. told.done (λ f. inv.done f ∙ sym inv.front) e ∙ inv.front;
-      trims = λ wanted h. told.gives wanted (reverse rest) (rw popped at (inv.trims wanted h));
+      trims = λ wanted h.
+          told.gives wanted (into_iter_items c.next-in-loop-node.new.self)
+          (rw c.in-Some-next.ensures.items at (inv.trims wanted h));
     }
 
 pub returns-clause-labels : goal.returns-clause-labels
 returns-clause-labels g c =
-    let problem = c.args.problem.now in
-    let items = range_of problem c.args.partial.now in
-    let cut = reaches (g.J.Judge.bound_of c.args.judge.now problem items) c.args.value in
-    let start = labels_of c.args.partial.now in
-    let t = c.requires.tree.0 in
-    let wanted = flat (trim items cut start t) in
-    let inv = c.loop-node.invariant in
-    let at =
-    inv.trims wanted (trims-start items cut c.args.nodes.items start t c.requires.tree.1
-    c.requires.tree.2) in
-    let over : c.loop-node.rest.items ≡ [] =
-    nil_from_length c.loop-node.rest.items (sym c.loop-node.rest.ok.0 ∙ c.in_default.ensures.cases.0) in
-    inv.done (trims-closed items cut wanted c.loop-node.trimming.kept.items c.loop-node.trimming.skip
-    (length start) (labels_of c.loop-node.partial) c.loop-node.trimming.open
-    (rw over at at))
+    let told = rw c.labels-base.ensures at c.restore.ensures in
+    told.labels ∙ c.loop-node.invariant.front
 
 pub returns-clause-trimmed : goal.returns-clause-trimmed
 returns-clause-trimmed g c = λ t flat_is options.
@@ -95,6 +69,7 @@ returns-clause-trimmed g c = λ t flat_is options.
     let wanted = flat (trim items cut start t) in
     let inv = c.loop-node.invariant in
     let at = inv.trims wanted (trims-start items cut c.args.nodes.items start t flat_is options) in
-    let over : c.loop-node.rest.items ≡ [] =
-    nil_from_length c.loop-node.rest.items (sym c.loop-node.rest.ok.0 ∙ c.in_default.ensures.cases.0) in
+    let over : c.loop-node.rest.rest.items ≡ [] =
+    nil_from_length c.loop-node.rest.rest.items
+    (sym c.loop-node.rest.rest.ok.0 ∙ c.in_default-next.ensures.cases.0) in
     trims-end items cut wanted c.loop-node.trimming.kept.items c.loop-node.trimming.skip _ (rw over at at)
