@@ -267,7 +267,7 @@ found_told problem rows best s lower matrix timing (Err fault.Memory) is = absur
 -- ---- a whole certificate
 
 -- the main tree, where there is one
-the_tree : (main : Option Plain) → IsSome main → (tree : Plain) × (main ≡ Some tree)
+pub the_tree : (main : Option Plain) → IsSome main → (tree : Plain) × (main ≡ Some tree)
 the_tree None some = absurd (false≢true some)
 the_tree (Some tree) some = (tree, refl)
 
@@ -394,53 +394,47 @@ module _ (problem : Parts) (rows : List MatrixRow) (some : Bool) (placing : Opti
       absurd (no_timing cert.kind rows (without_placing cert.kind problem rows other matrix) has)
   load_same (Some p) is matrix has = is.load
 
-  -- what was found of what the certificate says is found of it
-  pub found_cert : HasOwnParts cert → (answer : Result Verdict CheckFault)
-      → IsFoundTold problem rows (load_in placing) (cert_said problem (load_in placing) cert) None answer
+  -- what the certificate says
+  abbrev best : Option ℕ
+  best = load_in placing
+
+  abbrev said : Said
+  said = cert_said problem best cert
+
+  matrix : MatrixOfKind said.kind problem rows → MatrixOfKind cert.kind problem rows
+  matrix m = subst (λ k. MatrixOfKind k problem rows) (kind_of_main problem rows best cert cert.main_tree) m
+
+  unplaced : MatrixOfKind cert.kind problem rows → MatrixOfKind said.kind problem rows
+  unplaced m =
+      subst (λ k. MatrixOfKind k problem rows) (sym (kind_of_main problem rows best cert cert.main_tree)) m
+
+  timing : TimingOfKind said.kind problem rows said.lines → TimingOfKind cert.kind problem rows cert.frames
+  timing t =
+      subst (λ k. TimingOfKind k problem rows cert.frames) (kind_of_main problem rows best cert cert.main_tree)
+      (subst (TimingOfKind said.kind problem rows) (lines_of_main problem rows best cert cert.main_tree) t)
+
+  untimed : TimingOfKind cert.kind problem rows cert.frames → TimingOfKind said.kind problem rows said.lines
+  untimed t =
+      subst (TimingOfKind said.kind problem rows) (sym (lines_of_main problem rows best cert cert.main_tree))
+      (subst (λ k. TimingOfKind k problem rows cert.frames)
+      (sym (kind_of_main problem rows best cert cert.main_tree)) t)
+
+  by_trees : HasOwnParts cert → (answer : Result Verdict CheckFault) → MatrixOfKind said.kind problem rows
+      → TimingOfKind said.kind problem rows said.lines → IsVerdictTold problem best said None answer
       → IsFound problem rows cert answer
-  found_cert parts answer found = by answer found
-    where
-      abbrev said : Said
-      said = cert_said problem (load_in placing) cert
+  by_trees parts answer m t told =
+      found_by_trees problem rows cert best (matrix m) (timing t)
+      (best_same placing knows.placed (matrix m)) (load_same placing knows.placed (matrix m)) answer
+      (answer_told problem rows best cert parts answer told)
 
-      matrix : MatrixOfKind said.kind problem rows → MatrixOfKind cert.kind problem rows
-      matrix m =
-          subst (λ k. MatrixOfKind k problem rows) (kind_of_main problem rows (load_in placing) cert cert.main_tree) m
-
-      back : MatrixOfKind cert.kind problem rows → MatrixOfKind said.kind problem rows
-      back m =
-          subst (λ k. MatrixOfKind k problem rows)
-          (sym (kind_of_main problem rows (load_in placing) cert cert.main_tree)) m
-
-      abbrev Timing : Kind → List FrameLine → Type 0
-      Timing kind lines = TimingOfKind kind problem rows lines
-
-      timing : Timing said.kind said.lines → Timing cert.kind cert.frames
-      timing t =
-          subst (λ k. Timing k cert.frames) (kind_of_main problem rows (load_in placing) cert cert.main_tree)
-          (subst (Timing said.kind) (lines_of_main problem rows (load_in placing) cert cert.main_tree) t)
-
-      untimed : Timing cert.kind cert.frames → Timing said.kind said.lines
-      untimed t =
-          subst (Timing said.kind) (sym (lines_of_main problem rows (load_in placing) cert cert.main_tree))
-          (subst (λ k. Timing k cert.frames)
-          (sym (kind_of_main problem rows (load_in placing) cert cert.main_tree)) t)
-
-      judged : (answer : Result Verdict CheckFault) → MatrixOfKind said.kind problem rows
-          → Timing said.kind said.lines → IsVerdictTold problem (load_in placing) said None answer
-          → IsFound problem rows cert answer
-      judged answer m t told =
-          found_by_trees problem rows cert (load_in placing) (matrix m) (timing t)
-          (best_same placing knows.placed (matrix m)) (load_same placing knows.placed (matrix m)) answer
-          (answer_told problem rows (load_in placing) cert parts answer told)
-
-      by : (answer : Result Verdict CheckFault)
-          → IsFoundTold problem rows (load_in placing) said None answer → IsFound problem rows cert answer
-      by (Ok shown) f = judged (Ok shown) f.0 f.1 f.2
-      by (Err fault.RejectedMatrix) f = λ m. f (back m)
-      by (Err fault.RejectedTiming) f = (matrix f.0, λ t. f.1 (untimed t))
-      by (Err fault.RejectedTree) f = judged (Err fault.RejectedTree) f.0 f.1 f.2
-      by (Err fault.Memory) f = absurd f
+  -- what was found of that is found of it
+  pub found_cert : HasOwnParts cert → (answer : Result Verdict CheckFault)
+      → IsFoundTold problem rows best said None answer → IsFound problem rows cert answer
+  found_cert parts (Ok shown) f = by_trees parts (Ok shown) f.0 f.1 f.2
+  found_cert parts (Err fault.RejectedMatrix) f = λ m. f (unplaced m)
+  found_cert parts (Err fault.RejectedTiming) f = (matrix f.0, λ t. f.1 (untimed t))
+  found_cert parts (Err fault.RejectedTree) f = by_trees parts (Err fault.RejectedTree) f.0 f.1 f.2
+  found_cert parts (Err fault.Memory) f = absurd f
 
   -- what follows
   pub holds_cert : (answer : Result Verdict CheckFault) → IsFound problem rows cert answer
