@@ -472,7 +472,11 @@ impl CertWalk {
     /// # Errors
     ///
     /// The first part of the rule that fails: `RejectedMatrix`, `RejectedTiming` or `RejectedTree`.
-    pub fn verdict_joined(&self, problem: &Problem, lower: Option<u128>) -> Result<Verdict, CheckFault>
+    pub fn verdict_joined(
+        &self,
+        problem: &Problem,
+        lower: Option<u128>,
+    ) -> Result<Verdict, CheckFault>
         requires { HasTaken self.now problem.now }
         ensures told { (rows : List MatrixRow) (entries : List Entry) → Taken self.now problem.now rows entries
             → IsFoundOf problem.now rows self.now entries lower result }

@@ -139,7 +139,12 @@ fn place_is(rt: &impl Abort, walk: &CertWalk, problem: &Problem, labels: &[u32])
 #[test]
 fn a_hole_is_a_tree_at_its_place(rt: HostRuntime) {
     let problem = two_signals(&rt, rt.alloc(), b"ECU1");
-    let events = [Event::Head(Kind::KindNoSolution), Event::Main, Event::Node(1), Event::Node(2)];
+    let events = [
+        Event::Head(Kind::KindNoSolution),
+        Event::Main,
+        Event::Node(1),
+        Event::Node(2),
+    ];
     let mut walk = walk_of(&rt, rt.alloc(), &problem, NO_ROWS, &events);
     assert_eq!(rt; walk.kind(), Kind::KindNoSolution);
     assert_eq!(rt; walk.best(), None);
@@ -151,7 +156,10 @@ fn a_hole_is_a_tree_at_its_place(rt: HostRuntime) {
     assert_eq!(rt; walk.verdict(&problem), Ok(Verdict::NoSolution));
     walk.pass_over(&problem);
     assert!(rt; walk.failed());
-    assert_eq!(rt; walk.verdict_joined(&problem, None), Err(CheckFault::RejectedTree));
+    assert_eq!(rt;
+        walk.verdict_joined(&problem, None),
+        Err(CheckFault::RejectedTree)
+    );
 }
 
 /// The line of the lemma of a sender whose signal alone is a frame of 7000 ticks: 56000 eighths.
