@@ -1,29 +1,24 @@
-use Rattle.std.proofs.Common.{None, ap, refl, subst, sym, ◌∙◌}
+use Rattle.std.proofs.Common.{None, ap, refl, sym, ◌∙◌}
 use Rattle.bandwidth_bound.specs.Goals.{eighths}
 use Rattle.cert_check.specs.Said.{main_aim, may_leave_of}
 use Rattle.cert_check.specs.Taken.{load_in}
-use Rattle.cert_check.specs.Trees.{HasRoom}
-use Rattle.cert_check.proofs.Found.{has_room}
 use Rattle.cert_check.proofs.StoreLaws.{begun_stored, none_falls}
 use Rattle.cert_check.proofs.cert_walk.CertWalk.take_main.Goals as goal
 
 pub in_eighths-requires : goal.in_eighths-requires
-in_eighths-requires c =
-    subst HasRoom (sym c.best.ensures)
-    (has_room c.args.problem.now c.requires.0 c.args.self.now.placing c.requires.2.knows.stands
-    c.requires.2.knows.placed)
+in_eighths-requires c = c.best.ensures.room c.args.problem.now c.requires
 
 pub returns : goal.returns
 returns c = record {
   stores = λ rows s stores.
-      let stays = sym c.trees_fail.ensures ∙ c.if-trees_fail.false in
+      let stays = sym c.failed.ensures ∙ c.if-failed.false in
       let stay = none_falls c.args.self.now stays in
       begun_stored c.args.problem.now rows c.args.self.now s stores
       (main_aim s.kind (load_in c.args.self.now.placing)) s.last s.values stays tt c.begin.new.self
       c.args.self.now.last c.begin.ensures.walks c.begin.ensures.begins
       (c.begin.ensures.aim ∙ (λ i. record {
         range = None;
-        value = (c.in_eighths.ensures ∙ ap eighths c.best.ensures) i;
+        value = (c.in_eighths.ensures ∙ ap eighths c.best.ensures.value) i;
         may_leave = (c.may_leave.ensures ∙ ap may_leave_of stores.kind) i;
       }))
       (c.begin.ensures.values ∙ (stores.in_tree stay.0).kept) (stores.last stay.0) (λ i. s.values);
