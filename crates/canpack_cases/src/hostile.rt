@@ -297,7 +297,15 @@ fn large_texts(rt: HostRuntime) -> Result<(), Fail> {
         let text = text_of(rt.alloc(), large)?;
         let mut texts = TWO_SIGNALS;
         texts[large.file] = &text;
-        expect_by_reads(&rt, number, &texts, usize::MAX, large.status, large.said)?;
+        expect_by_reads(
+            &rt,
+            number,
+            &texts,
+            usize::MAX,
+            "1",
+            large.status,
+            large.said,
+        )?;
     }
     Ok(())
 }

@@ -20,6 +20,8 @@ mod refusals;
 #[cfg(test)]
 mod runs;
 #[cfg(test)]
+mod shards;
+#[cfg(test)]
 mod texts;
 #[cfg(test)]
 mod trees;

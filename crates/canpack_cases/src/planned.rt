@@ -234,6 +234,10 @@ fn files_after_a_plan(rt: HostRuntime) -> Result<(), Fail> {
     Ok(())
 }
 
+/// Four senders with six signals each.
+pub const FOUR_SENDERS: &[u8] =
+    b"signal,sender,pdu,bits,period_us,deadline_us,jitter_us\nA1,ECU1,,8,10000,,\nA2,ECU1,,16,10000,,\nA3,ECU1,,12,20000,,\nA4,ECU1,,10,20000,,\nA5,ECU1,,8,50000,,\nA6,ECU1,,16,100000,,\nB1,ECU2,,8,10000,,\nB2,ECU2,,16,10000,,\nB3,ECU2,,12,20000,,\nB4,ECU2,,10,20000,,\nB5,ECU2,,8,50000,,\nB6,ECU2,,16,100000,,\nC1,ECU3,,8,10000,,\nC2,ECU3,,16,10000,,\nC3,ECU3,,12,20000,,\nC4,ECU3,,10,20000,,\nC5,ECU3,,8,50000,,\nC6,ECU3,,16,100000,,\nD1,ECU4,,8,10000,,\nD2,ECU4,,16,10000,,\nD3,ECU4,,12,20000,,\nD4,ECU4,,10,20000,,\nD5,ECU4,,8,50000,,\nD6,ECU4,,16,100000,,\n";
+
 /// Signals that are planned within so many branches, the status, and what `plan` and then `check` say.
 const PLANS: [(&[u8], &str, u8, u8, &[u8]); 14] = [
     // Two signals: one step leaves the second open, the third one finds both in one frame, and the fourth is the last.
@@ -327,7 +331,7 @@ const PLANS: [(&[u8], &str, u8, u8, &[u8]); 14] = [
     ),
     // Four senders: each has its first five signals in a frame of 9400 ticks ten times, and the last in one of 7400.
     (
-        b"signal,sender,pdu,bits,period_us,deadline_us,jitter_us\nA1,ECU1,,8,10000,,\nA2,ECU1,,16,10000,,\nA3,ECU1,,12,20000,,\nA4,ECU1,,10,20000,,\nA5,ECU1,,8,50000,,\nA6,ECU1,,16,100000,,\nB1,ECU2,,8,10000,,\nB2,ECU2,,16,10000,,\nB3,ECU2,,12,20000,,\nB4,ECU2,,10,20000,,\nB5,ECU2,,8,50000,,\nB6,ECU2,,16,100000,,\nC1,ECU3,,8,10000,,\nC2,ECU3,,16,10000,,\nC3,ECU3,,12,20000,,\nC4,ECU3,,10,20000,,\nC5,ECU3,,8,50000,,\nC6,ECU3,,16,100000,,\nD1,ECU4,,8,10000,,\nD2,ECU4,,16,10000,,\nD3,ECU4,,12,20000,,\nD4,ECU4,,10,20000,,\nD5,ECU4,,8,50000,,\nD6,ECU4,,16,100000,,\n",
+        FOUR_SENDERS,
         "100000",
         0,
         0,

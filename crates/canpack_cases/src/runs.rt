@@ -1,6 +1,6 @@
 // One run of the top call over files in memory.
 use canpack_top::canpack;
-use pack_base::{MemFolder, MemSink, Memory, OpenGate};
+use pack_base::{Folder, Gate, MemFolder, MemSink, Memory, OpenGate};
 use std::process::Abort;
 use std::test::Fail;
 use std::thread::Threads;
@@ -8,7 +8,7 @@ use std::thread::Threads;
 /// The four file words of each run.
 pub const NAMES: [&str; 4] = ["network.json", "signals.csv", "matrix.csv", "cert.txt"];
 
-/// The words of `check` over these files.
+/// The words of `check` over these files by one worker.
 pub const CHECK: [&str; 6] = [
     "check",
     "network.json",
@@ -48,46 +48,62 @@ pub(crate) fn folder_of<R: AllocGlobal>(rt: &R, texts: &[&[u8]; 4]) -> Result<Me
     Ok(folder)
 }
 
-/// The status of the top call for these words.
-pub(crate) fn status_of<R: AllocGlobal + Threads>(
+/// The status of the top call for these words, where shards enter this gate.
+pub(crate) fn status_by<R: AllocGlobal + Threads + Sync, F: Folder, G: Gate + Sync>(
     rt: &R,
     words: &[&str],
-    folder: &mut MemFolder,
+    folder: &mut F,
     out: &mut MemSink,
+    gate: &G,
 ) -> Result<u8, Memory> {
     let mut given = Vec::new(rt.alloc());
     for word in words {
         given.push(String::from_str(rt.alloc(), word)?)?;
     }
-    Ok(canpack(rt, rt.alloc(), &given, folder, out, &OpenGate))
+    Ok(canpack(rt, rt.alloc(), &given, folder, out, gate))
 }
 
-/// `check` ends with this status over these texts and says this, with reads of at most so many bytes.
-pub(crate) fn expect_by_reads<R: AllocGlobal + Threads + Abort>(
+/// The status of the top call for these words.
+pub(crate) fn status_of<R: AllocGlobal + Threads + Sync>(
+    rt: &R,
+    words: &[&str],
+    folder: &mut MemFolder,
+    out: &mut MemSink,
+) -> Result<u8, Memory> {
+    status_by(rt, words, folder, out, &OpenGate)
+}
+
+/// `check` ends with this status over these texts and says this, with reads of at most so many bytes and by so many
+/// workers.
+pub(crate) fn expect_by_reads<R: AllocGlobal + Threads + Sync + Abort>(
     rt: &R,
     row: usize,
     texts: &[&[u8]; 4],
     most: usize,
+    workers: &str,
     status: u8,
     said: &[u8],
 ) -> Result<(), Fail> {
     let mut folder = folder_of(rt, texts)?;
     folder.short_reads(most.max(1));
     let mut out = MemSink::new(rt.alloc());
-    let answer = status_of(rt, &CHECK, &mut folder, &mut out)?;
+    let mut words = CHECK;
+    words[5] = workers;
+    let answer = status_of(rt, &words, &mut folder, &mut out)?;
     assert_eq!(rt; answer, status, "row {row}");
     assert_eq!(rt; out.said(), said, "row {row}");
     Ok(())
 }
 
-/// The same with whole reads and with reads of one byte.
-pub(crate) fn expect_check<R: AllocGlobal + Threads + Abort>(
+/// The same with whole reads, with reads of one byte, and by many workers.
+pub(crate) fn expect_check<R: AllocGlobal + Threads + Sync + Abort>(
     rt: &R,
     row: usize,
     texts: &[&[u8]; 4],
     status: u8,
     said: &[u8],
 ) -> Result<(), Fail> {
-    expect_by_reads(rt, row, texts, usize::MAX, status, said)?;
-    expect_by_reads(rt, row, texts, 1, status, said)
+    expect_by_reads(rt, row, texts, usize::MAX, "1", status, said)?;
+    expect_by_reads(rt, row, texts, 1, "2", status, said)?;
+    expect_by_reads(rt, row, texts, usize::MAX, "64", status, said)
 }

@@ -7,13 +7,14 @@ const USAGE: &[u8] =
     b"usage: plan NETWORK SIGNALS MATRIX CERT BRANCHES WORKERS | check NETWORK SIGNALS MATRIX CERT WORKERS | make NUMBER [NETWORK SIGNALS]\n";
 
 /// Words that are the line of no command.
-const WRONG: [&[&str]; 11] = [
+const WRONG: [&[&str]; 12] = [
     &[],
     &["check"],
     &["check", "n", "s", "m", "c"],
     &["check", "n", "s", "m", "c", "1", "1"],
     &["Check", "n", "s", "m", "c", "1"],
-    &["check", "n", "s", "m", "c", "2"],
+    &["check", "n", "s", "m", "c", "0"],
+    &["check", "n", "s", "m", "c", "65"],
     &["check", "n", "s", "m", "c", "01"],
     &["check", "n", "s", "m", "c", ""],
     &["check", "n", "", "m", "c", "1"],

@@ -19,7 +19,7 @@ fn words_of<R: Env + AllocGlobal>(rt: &R) -> io::Result<Vec<String>> {
 
 /// Does what the program's words ask for, over real files and the standard output, and answers the status to end with:
 /// that of `canpack`, or 8 where the system gives no words as text, 6 where it names want of memory.
-pub fn program<R: Env + Files + Print + Threads + AllocGlobal>(rt: &R) -> u8 {
+pub fn program<R: Env + Files + Print + Threads + Sync + AllocGlobal>(rt: &R) -> u8 {
     match words_of(rt) {
         Ok(words) => {
             let mut folder = RealFolder::new(rt);

@@ -31,11 +31,11 @@ word words place = slice_index_or (map string_bytes words) place []
 abbrev pub names_in : List (String Global) → Names
 names_in words = record { network = word words 1; signals = word words 2; matrix = word words 3; cert = word words 4 }
 
--- the command of six words: `check` with its four files, and one worker
+-- the command of six words: `check` with its four files, and 1 to 64 workers
 abbrev pub check_of : List (String Global) → Option Command
 check_of words =
-    if bytes_eq (word words 0) (codes "check") && bytes_eq (word words 5) (codes "1") && are_names (names_in words)
-    then Some (command.CheckFiles 1)
+    if bytes_eq (word words 0) (codes "check") && are_names (names_in words)
+    then option_map (λ workers. command.CheckFiles workers) (decimal_of 1 64 (word words 5))
     else None
 
 -- the command of seven words: `plan` with its four files, 1 to 1000000 branches, and one worker
@@ -83,7 +83,8 @@ command_of words =
 
 -- the words name the files of a command, and its numbers are in their ranges
 abbrev pub HasNames : List (String Global) → Command → Type 0
-HasNames words (command.CheckFiles workers) = (6 ≤ length words) × IsTrue (are_names (names_in words))
+HasNames words (command.CheckFiles workers) =
+    (6 ≤ length words) × IsTrue (are_names (names_in words)) × (1 ≤ workers) × (workers ≤ 64)
 HasNames words (command.PlanFiles branches workers) =
     (6 ≤ length words) × IsTrue (are_names (names_in words)) × (1 ≤ branches) × (branches ≤ 1000000)
 HasNames words (command.MakeFiles number) =

@@ -1,5 +1,5 @@
 //! `check`: the checking of a certificate.
-ghost use Rattle.std.specs.Prelude.{◌≡◌, Err, IfOk, IsErrOf, IsSome, OnErr};
+ghost use Rattle.std.specs.Prelude.{◌≡◌, ◌≤◌, Err, IfOk, IsErrOf, IsSome, OnErr};
 ghost use Rattle.canpack_top.specs.Check.{HasAll, IsJudgement, check_answer, check_meaning, check_status};
 ghost use Rattle.canpack_top.specs.Command.{names_of};
 ghost use Rattle.canpack_top.specs.Meaning.{Runs, seen};
@@ -12,8 +12,9 @@ use crate::files::matrix_at;
 use crate::problem::read_problem;
 use crate::stopping::answer_of;
 use crate::verdict::{Found, found_line, judge};
-use pack_base::Folder;
+use pack_base::{Folder, Gate};
 use std::alloc::Global;
+use std::thread::Threads;
 
 /// What was found of four texts.
 #[derive(Clone, Copy, Debug)]
@@ -23,13 +24,19 @@ pub struct Judgement {
     pub hyper: u64,
 }
 
-/// Reads the four files, and judges the matrix and the certificate, which is read last and piece by piece.
+/// Reads the four files, and judges the matrix and the certificate, which is read last and piece by piece, by so many
+/// workers.
 #[tactic(auto, using(crate::proofs::ReadTwice::reads_trans), unfolding(crate::specs::Check::texts_at))]
-fn judgement_at<F: Folder>(
+fn judgement_at<R: Threads + Sync, F: Folder, G: Gate + Sync>(
+    rt: &R,
     alloc: Global,
     folder: &mut F,
     names: Names<'_>,
+    workers: u32,
+    gate: &G,
 ) -> Result<Judgement, Stop>
+    requires some { 1 ≤ workers }
+    requires few { workers ≤ 64 }
     ensures exact { IsSome (F.files folder.old)
         → IsJudgement result (names_of names.entry) (F.files folder.old) }
     ensures holds { IsSome (F.files folder.old)
@@ -41,7 +48,9 @@ fn judgement_at<F: Folder>(
 {
     let problem = read_problem(alloc, folder, names)?;
     let matrix = matrix_at(alloc, folder, names.matrix)?;
-    let found = judge(alloc, folder, &problem, &matrix, names.cert)?;
+    let found = judge(
+        rt, alloc, folder, &problem, &matrix, names.cert, workers, gate,
+    )?;
     Ok(Judgement {
         found,
         hyper: problem.hyper(),
@@ -70,13 +79,21 @@ fn judged_answer(alloc: Global, given: Judgement) -> Result<Answer, Halt>
     })
 }
 
-/// Answers what the four files say.
-#[tactic(none)]
-pub fn check<F: Folder>(alloc: Global, folder: &mut F, names: Names<'_>) -> Result<Answer, Halt>
+/// Answers what the four files say, by so many workers.
+pub fn check<R: Threads + Sync, F: Folder, G: Gate + Sync>(
+    rt: &R,
+    alloc: Global,
+    folder: &mut F,
+    names: Names<'_>,
+    workers: u32,
+    gate: &G,
+) -> Result<Answer, Halt>
+    requires some { 1 ≤ workers }
+    requires few { workers ≤ 64 }
     ensures { Runs (check_meaning (names_of names.entry))
         F.files F.read_faults F.write_faults F.given folder.old folder.new result }
 {
-    match judgement_at(alloc, folder, names) {
+    match judgement_at(rt, alloc, folder, names, workers, gate) {
         Ok(given) => judged_answer(alloc, given),
         Err(stop) => answer_of(alloc, stop),
     }

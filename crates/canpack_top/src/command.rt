@@ -36,7 +36,7 @@ pub struct CaseNames<'a> {
 /// What the words ask for, beside the files that they name.
 #[derive(Clone, Copy, Debug, PartialEq, Eq)]
 pub enum Command {
-    /// Checks a certificate of a matrix, by so many workers: 1 so far.
+    /// Checks a certificate of a matrix, by so many workers, 1 to 64.
     CheckFiles { workers: u32 },
     /// Plans a matrix within so many branches, 1 to 1000000, by so many workers: 1 so far.
     PlanFiles { branches: u64, workers: u32 },
@@ -121,10 +121,14 @@ fn check_of(words: &[String]) -> Option<Command>
     ensures exact { result ≡ check_of words.now }
     ensures names { IfSome result (HasNames words.now) }
 {
-    if words[0].as_str() == "check" && words[5].as_str() == "1" && has_names(words) {
-        Some(Command::CheckFiles { workers: 1 })
-    } else {
-        None
+    if words[0].as_str() != "check" || !has_names(words) {
+        return None;
+    }
+    match decimal_in(words[5].as_bytes(), 1, 64) {
+        Some(workers) => Some(Command::CheckFiles {
+            workers: workers as u32,
+        }),
+        None => None,
     }
 }
 

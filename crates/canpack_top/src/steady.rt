@@ -16,7 +16,7 @@ use std::thread::Threads;
 
 /// `canpack` over files whose reads never fail and a sink that takes everything: the words and the files alone
 /// decide the status, want of memory aside, and for `plan` a write fault.
-pub fn canpack_steady<R: Threads, G: Gate + Sync>(
+pub fn canpack_steady<R: Threads + Sync, G: Gate + Sync>(
     rt: &R,
     alloc: Global,
     words: &[String],

@@ -56,7 +56,14 @@ fn say<O: Sink>(out: &mut O, line: &[u8], status: u8) -> u8
 }
 
 /// Does what the words ask for, and answers the status; what the status says is the same for each command.
-fn status_of<F: Folder, O: Sink>(alloc: Global, words: &[String], folder: &mut F, out: &mut O) -> u8
+fn status_of<R: Threads + Sync, F: Folder, O: Sink, G: Gate + Sync>(
+    rt: &R,
+    alloc: Global,
+    words: &[String],
+    folder: &mut F,
+    out: &mut O,
+    gate: &G,
+) -> u8
     ensures usage { result ≡ 1 → IsNone (command_of words.now)
         × (O.said out.new ≡ and_said (O.said out.old) usage_line) }
     ensures only_usage { IsNone (command_of words.now) → (result ≡ 1) ⊎ (result ≡ 7) }
@@ -83,7 +90,7 @@ fn status_of<F: Folder, O: Sink>(alloc: Global, words: &[String], folder: &mut F
     let Some(command) = command_of(words) else {
         return say(out, usage_line(), 1);
     };
-    match run(alloc, folder, words, command) {
+    match run(rt, alloc, folder, words, command, gate) {
         Ok(answer) => say(out, &answer.line, answer.status.number()),
         Err(Halt::ReadFault) => 2,
         Err(Halt::WriteFault) => 3,
@@ -94,13 +101,13 @@ fn status_of<F: Folder, O: Sink>(alloc: Global, words: &[String], folder: &mut F
 /// Does what the words ask for, and answers the status: 0 done, 1 usage, 2 a read fault, 3 a write fault, 4 a
 /// refused text, 5 a rejected certificate, 6 want of memory, 7 a fault in saying the line, 10 no solution, 11 branches
 /// spent.
-pub fn canpack<R: Threads, F: Folder, O: Sink, G: Gate + Sync>(
-    _rt: &R,
+pub fn canpack<R: Threads + Sync, F: Folder, O: Sink, G: Gate + Sync>(
+    rt: &R,
     alloc: Global,
     words: &[String],
     folder: &mut F,
     out: &mut O,
-    _gate: &G,
+    gate: &G,
 ) -> u8
     // The cause of each status, with what was said and what is left of the files.
     ensures usage { result ≡ 1 → IsNone (command_of words.now)
@@ -194,5 +201,5 @@ pub fn canpack<R: Threads, F: Folder, O: Sink, G: Gate + Sync>(
     ensures case_plans { IsSome (F.files folder.old) → (number : ℕ) → IsPlanCase number words.now
         → IsEnded result ⊎ (result ≡ 6) ⊎ (result ≡ 7) }
 {
-    status_of(alloc, words, folder, out)
+    status_of(rt, alloc, words, folder, out, gate)
 }

@@ -1,5 +1,5 @@
 //! What the acceptance rule finds of a certificate, and its lines.
-ghost use Rattle.std.specs.Prelude.{◌≡◌, ◌^◌, ◌<◌, IfOk, IsErrOf, IsSome, string_bytes};
+ghost use Rattle.std.specs.Prelude.{◌≡◌, ◌≤◌, ◌^◌, ◌<◌, IfOk, IsErrOf, IsSome, string_bytes};
 ghost use Rattle.canpack_top.specs.Files.{cert_at};
 ghost use Rattle.canpack_top.specs.Reads.{FaultAt, ReadsOnly};
 ghost use Rattle.canpack_top.specs.Verdict.{
@@ -13,11 +13,13 @@ ghost use Rattle.canpack_top.specs.Verdict.{
 use crate::ending::Stop;
 use crate::refusal::{Refusal, Role};
 use bandwidth_bound::{Part, Verdict};
-use cert_check::{FeedCheck, check_feed};
+use cert_check::FeedCheck;
 use matrix_text::Matrix;
-use pack_base::Folder;
+use pack_base::{Folder, Gate};
 use pack_model::{Memory, Problem};
+use par_check::check_feed_par;
 use std::alloc::{AllocError, Global};
+use std::thread::Threads;
 
 /// What is found of texts that stand.
 #[derive(Clone, Copy, Debug, PartialEq, Eq)]
@@ -45,22 +47,27 @@ fn found_of(answer: Result<Verdict, FeedCheck>) -> Result<Found, Stop>
     }
 }
 
-/// Judges the certificate of a file, which is read piece by piece: what it shows of a problem's matrix, or the first
-/// part of the acceptance rule that doesn't hold.
-pub fn judge<F: Folder>(
+/// Judges the certificate of a file, which is read piece by piece, by so many workers: what it shows of a problem's
+/// matrix, or the first part of the acceptance rule that doesn't hold.
+pub fn judge<R: Threads + Sync, F: Folder, G: Gate + Sync>(
+    rt: &R,
     alloc: Global,
     folder: &mut F,
     problem: &Problem,
     matrix: &Matrix,
     name: &str,
+    workers: u32,
+    gate: &G,
 ) -> Result<Found, Stop>
+    requires some { 1 ≤ workers }
+    requires few { workers ≤ 64 }
     ensures exact { IsSome (F.files folder.old)
         → IsJudged result problem.now matrix.now (cert_at (F.files folder.old) name.now) }
     ensures read_fault { IsErrOf result Stop.ReadFault
         → FaultAt (F.read_faults folder.old) (F.read_faults folder.new) name.now }
     ensures only { ReadsOnly F.files F.read_faults F.write_faults F.given folder.old folder.new }
 {
-    found_of(check_feed(alloc, problem, matrix, folder, name))
+    found_of(check_feed_par(rt, alloc, problem, matrix, folder, name, workers, gate))
 }
 
 fn verdict_text(alloc: Global, shown: Verdict, hyper: u64) -> Result<String, AllocError>

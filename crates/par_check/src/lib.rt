@@ -5,11 +5,13 @@
 #![tactic(auto)]
 
 mod checking;
+mod feeding;
 mod judging;
 mod laws;
 mod shard;
 
 pub use checking::check_shards;
+pub use feeding::check_feed_par;
 pub use laws::answer_is_one;
 pub use shard::{Goal, Joined, Shard};
 

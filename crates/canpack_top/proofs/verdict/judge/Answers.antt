@@ -9,8 +9,8 @@ returns-clause-exact g c = λ told.
     subst (λ answer. IsJudged answer c.args.problem.now c.args.matrix.now
     (cert_at (g.F.Folder.files c.args.folder.now) c.args.name.now)) (sym c.found_of.ensures)
     (judges c.args.problem.now c.args.matrix.now (g.F.Folder.files c.args.folder.now) c.args.name.now
-    c.check_feed.result (c.check_feed.ensures.told told) (c.check_feed.ensures.size told))
+    c.check_feed_par.result (c.check_feed_par.ensures.told told) (c.check_feed_par.ensures.size told))
 
 pub returns-clause-read_fault : goal.returns-clause-read_fault
 returns-clause-read_fault g c = λ is.
-    c.check_feed.ensures.read_fault (fault_is c.check_feed.result (sym c.found_of.ensures ∙ is))
+    c.check_feed_par.ensures.read_fault (fault_is c.check_feed_par.result (sym c.found_of.ensures ∙ is))
