@@ -1,3 +1,5 @@
 pub mod Chunks
+pub mod Gatherings
+pub mod Marks
 pub mod Ones
 pub mod ShardLaws

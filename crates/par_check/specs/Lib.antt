@@ -1,3 +1,4 @@
 pub mod Aims
+pub mod Gathered
 pub mod Laws
 pub mod Shards

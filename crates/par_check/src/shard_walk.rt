@@ -1,0 +1,165 @@
+//! The walk over the events of a certificate whose marked trees are judged apart.
+
+use crate::checking::check_shards;
+use crate::gathering::{Gathered, Gathering};
+use crate::judging::lesser;
+use crate::shard::{Goal, Shard};
+use cert_check::{CertWalk, CheckFault, Verdict};
+use cert_text::{Event, Tree};
+use matrix_text::Matrix;
+use pack_base::Gate;
+use pack_model::{Labels, Memory, Problem, Values};
+use std::alloc::Global;
+use std::mem;
+use std::thread::Threads;
+
+/// A walk over the events of a certificate, which gathers each marked tree into a shard and passes over it.
+#[derive(Drop)]
+pub(crate) struct ShardWalk {
+    alloc: Global,
+    /// The walk over all else.
+    walk: CertWalk,
+    /// The marked tree that is being read, if it is to be a shard.
+    gathering: Option<Gathering>,
+    /// The shards that are not judged yet.
+    batch: Vec<Shard>,
+    /// The number of the next shard.
+    number: usize,
+    /// The least lower bound at the open leaves of the shards that were judged, in eighths of ticks a common
+    /// period.
+    lower: Option<u128>,
+    /// Some shard doesn't stand.
+    denied: bool,
+}
+
+impl ShardWalk {
+    /// A walk that took no event.
+    pub fn new(alloc: Global, problem: &Problem, matrix: &Matrix) -> Result<ShardWalk, Memory> {
+        Ok(ShardWalk {
+            alloc,
+            walk: CertWalk::new(alloc, problem, matrix)?,
+            gathering: None,
+            batch: Vec::new(alloc),
+            number: 0,
+            lower: None,
+            denied: false,
+        })
+    }
+
+    /// Whether something of the trees is known not to stand.
+    fn has_failed(&self) -> bool {
+        self.denied || self.walk.failed()
+    }
+
+    /// Takes the next event. True where the shards are to be judged.
+    pub fn take(
+        &mut self,
+        problem: &Problem,
+        workers: u32,
+        event: Event,
+    ) -> Result<bool, Memory> {
+        match mem::take(&mut self.gathering) {
+            None => Ok(self.walk_on(problem, &event)),
+            Some(part) => self.gather(problem, workers, part, event),
+        }
+    }
+
+    /// Takes an event that is not one of a shard. True where the main tree begins.
+    fn walk_on(&mut self, problem: &Problem, event: &Event) -> bool {
+        self.walk.take(problem, event);
+        match event {
+            Event::Main => true,
+            Event::ShardMark => {
+                if !self.has_failed() {
+                    self.gathering = Some(Gathering::new(self.alloc));
+                }
+                false
+            }
+            _ => false,
+        }
+    }
+
+    /// Takes an event of a shard. True where it is the last one of a batch.
+    fn gather(
+        &mut self,
+        problem: &Problem,
+        workers: u32,
+        part: Gathering,
+        event: Event,
+    ) -> Result<bool, Memory> {
+        match part.take(event)? {
+            Gathered::Part(part) => {
+                self.gathering = Some(part);
+                Ok(false)
+            }
+            Gathered::Whole(tree) => {
+                self.keep(problem, tree)?;
+                Ok(self.is_full(workers))
+            }
+        }
+    }
+
+    /// Keeps a tree as a shard of the batch.
+    fn keep(&mut self, problem: &Problem, tree: Tree) -> Result<(), Memory> {
+        let path = Vec::from_slice(self.alloc, self.walk.path())?;
+        self.batch.push(Shard {
+            number: self.number,
+            lemma: self.walk.lemma(),
+            path: Labels::of(path),
+            tree,
+        })?;
+        self.number = self.number.saturating_add(1);
+        self.walk.pass_over(problem);
+        Ok(())
+    }
+
+    /// Whether the batch has as many shards of the main tree as are judged together.
+    fn is_full(&self, workers: u32) -> bool {
+        self.walk.lemma().is_none() && self.batch.len() >= 4 * workers as usize
+    }
+
+    /// What the trees are to show.
+    fn goal(&self) -> Result<Goal, Memory> {
+        let lemmas = Vec::from_slice(self.alloc, self.walk.lemma_values())?;
+        Ok(Goal {
+            kind: self.walk.kind(),
+            best: self.walk.best(),
+            lemmas: Values::of(lemmas),
+        })
+    }
+
+    /// Judges the shards that were gathered.
+    pub fn judge<R: Threads + Sync, G: Gate + Sync>(
+        &mut self,
+        rt: &R,
+        problem: &Problem,
+        workers: u32,
+        gate: &G,
+    ) -> Result<(), Memory> {
+        let batch = mem::replace(&mut self.batch, Vec::new(self.alloc));
+        if self.has_failed() {
+            return Ok(());
+        }
+        let goal = self.goal()?;
+        match check_shards(rt, self.alloc, problem, &goal, &batch, workers, gate) {
+            Ok(joined) => self.lower = lesser(self.lower, joined.lower),
+            Err(CheckFault::Memory) => return Err(Memory),
+            Err(_) => self.denied = true,
+        }
+        Ok(())
+    }
+
+    /// The verdict of the certificate whose events were taken, where all shards were judged.
+    pub fn verdict(&self, problem: &Problem) -> Result<Verdict, CheckFault> {
+        match self.walk.verdict_joined(problem, self.lower) {
+            Ok(shown) => {
+                if self.denied {
+                    Err(CheckFault::RejectedTree)
+                } else {
+                    Ok(shown)
+                }
+            }
+            Err(fault) => Err(fault),
+        }
+    }
+}
