@@ -1,10 +1,14 @@
 pub mod Accept
+pub mod Entries
 pub mod Feed
+pub mod Holes
+pub mod Joined
 pub mod Kinds
 pub mod Laws
 pub mod Nodes
 pub mod Said
 pub mod Subtree
 pub mod Taken
+pub mod Told
 pub mod Trees
 pub mod Walk

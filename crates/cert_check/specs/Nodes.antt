@@ -9,12 +9,13 @@ use Rattle.grouping_tree.specs.Walk.{places_below}
 use Rattle.bandwidth_bound.specs.Bounds.{Reaches}
 use Rattle.bandwidth_bound.specs.Trees.{Goal, TreeStands, open_places}
 
--- a node of a tree: an inner node with so many subtrees, or a leaf
+-- a node of a tree: an inner node with so many subtrees, a leaf, or a hole in the place of a whole tree
 pub data Node : Type 0 where
   inner_node : ℕ → Node
   bound_leaf : Node
   open_leaf : Node
   fail_leaf : List (ℕ × Evidence) → Node
+  hole : Plain → Node
 
 -- how many trees
 abbrev pub count_trees : Plains → ℕ
@@ -38,12 +39,13 @@ abbrev pub IsSplit : List Item → List ℕ → ℕ → Type 0
 IsSplit items p n = (length p < length items) × (n ≡ length (options_of items p))
 
 -- a node stands at a partial grouping: an inner node where items are left, with one subtree for each option;
--- a leaf by its rule
+-- a leaf by its rule; a hole anywhere
 abbrev pub NodeStands : Goal → List ℕ → Node → Type 0
 NodeStands goal p (inner_node n) = IsSplit goal.items p n
 NodeStands goal p bound_leaf = Reaches goal.value (goal.lower8 p)
 NodeStands goal p open_leaf = goal.may_leave ≡ true
 NodeStands goal p (fail_leaf named) = goal.AreFailing p named
+NodeStands goal p (hole tree) = ⊤
 
 -- the places that are still to come for a node at a place
 abbrev pub places_of : Goal → List ℕ → Node → List (List ℕ)
@@ -51,6 +53,7 @@ places_of goal p (inner_node n) = places_below goal.items p
 places_of goal p bound_leaf = []
 places_of goal p open_leaf = []
 places_of goal p (fail_leaf named) = []
+places_of goal p (hole tree) = []
 
 -- the bound at an open leaf
 abbrev pub bounds_at : Goal → List ℕ → Node → List ℕ
@@ -58,6 +61,7 @@ bounds_at goal p (inner_node n) = []
 bounds_at goal p bound_leaf = []
 bounds_at goal p open_leaf = goal.lower8 p ∷ []
 bounds_at goal p (fail_leaf named) = []
+bounds_at goal p (hole tree) = []
 
 -- nodes stand, one after the other, where these places are to come
 unfoldable pub NodesStand : Goal → List (List ℕ) → List Node → Type 0

@@ -1,4 +1,5 @@
--- What the events of a certificate say, one after the other: its trees as the nodes that were told of them.
+-- What the events of a certificate say, and holes among them, one after the other: its trees as the nodes that
+-- were told of them.
 use Rattle.std.specs.Prelude.{ℕ, Bool, true, false, List, [], ◌∷◌, ◌++◌, length, Option, None, Some, fold, replicate, slice_set}
 use Rattle.pack_model.specs.Problem.{Parts}
 use Rattle.cert_text.specs.declared.event.Event.{Event}
@@ -7,9 +8,10 @@ use Rattle.cert_text.specs.declared.parts.FrameLine.{FrameLine}
 use Rattle.cert_text.specs.declared.parts.Kind.{Kind}
 use Rattle.cert_text.specs.declared.parts.Kind.TheVariants.{KindPlaced, KindTimed, KindBetween, KindBest, KindNoSolution}
 use Rattle.cert_text.specs.Parts.{CertParts, LemmaOf}
-use Rattle.cert_text.specs.Trees.{Plain}
+use Rattle.cert_text.specs.Trees.{Plain, unmark}
 use Rattle.bandwidth_bound.specs.Goals.{eighths}
-use Rattle.cert_check.specs.Nodes.{Node, bound_leaf, fail_leaf, inner_node, nodes_of, open_leaf}
+use Rattle.cert_check.specs.Entries.{Entry, as_event, as_hole}
+use Rattle.cert_check.specs.Nodes.{Node, bound_leaf, fail_leaf, hole, inner_node, nodes_of, open_leaf}
 use Rattle.cert_check.specs.declared.walk.Aim.{Aim}
 
 -- A tree as far as it was told: what it is to show, the sender of the last lemma before it, if there is one,
@@ -118,9 +120,14 @@ and_said best s event.ShardMark = s
 and_said best s event.JoinMark = s
 and_said best s event.Finish = with_end s
 
--- what events say
-abbrev pub said_by : Parts → Option ℕ → List Event → Said
-said_by problem best events = fold (and_said best) (nothing_said problem) events
+-- one entry more: a hole is one node of the tree
+abbrev pub and_entry : Option ℕ → Said → Entry → Said
+and_entry best s (as_event event) = and_said best s event
+and_entry best s (as_hole tree) = with_node (hole (unmark tree)) s
+
+-- what entries say
+abbrev pub said_by : Parts → Option ℕ → List Entry → Said
+said_by problem best entries = fold (and_entry best) (nothing_said problem) entries
 
 -- a lemma with its whole tree
 abbrev pub lemma_said : Said → LemmaOf Plain → Said

@@ -12,7 +12,6 @@ use Rattle.matrix_rows.specs.declared.matrix.MatrixRow.{MatrixRow}
 use Rattle.matrix_text.specs.Frames.{grouping_of, order_of}
 use Rattle.matrix_text.specs.OnePlace.{OnePlace}
 use Rattle.matrix_text.specs.Placed.{Placed}
-use Rattle.cert_text.specs.declared.event.Event.{Event}
 use Rattle.cert_text.specs.declared.parts.FrameLine.{FrameLine}
 use Rattle.cert_text.specs.Parts.{CertParts, HasParts}
 use Rattle.bandwidth_bound.specs.Trees.{Goal}
@@ -24,7 +23,8 @@ use Rattle.cert_check.specs.declared.fault.CheckFault.TheVariants as fault
 use Rattle.cert_check.specs.declared.placing.Placing.{Placing}
 use Rattle.cert_check.specs.declared.walk.Walk.{Walk}
 use Rattle.cert_check.specs.Kinds.{has_row}
-use Rattle.cert_check.specs.Nodes.{NodesStand, Takes, Way}
+use Rattle.cert_check.specs.Entries.{Entry}
+use Rattle.cert_check.specs.Nodes.{NodesStand, Takes, Way, lowered}
 use Rattle.cert_check.specs.Said.{Said, TreeSaid, cert_said, said_by}
 use Rattle.cert_check.specs.Trees.{lower_with}
 use Rattle.cert_check.specs.Walk.{IsWalk, goal_of, start, values_in, values_used, way_of}
@@ -115,8 +115,8 @@ pub record KnowsMatrix (problem : Parts) (rows : List MatrixRow) (some : Bool)
 
 -- What the walk stores where this was said: what it knows of the matrix; the kind; how many frame lines there
 -- were, up to 2^32 - 1, and whether one of them doesn't show its frame; the last lemma's sender and the place in
--- the tree as long as all that was told of trees stands, and else that some of it doesn't; whether the end was
--- said.
+-- the tree as long as all that was told of trees stands, and else that some of it doesn't; a value for each
+-- sender; whether the end was said.
 pub record Stores (problem : Parts) (rows : List MatrixRow) (walk : CertWalk) (s : Said) : Type 0 where
   pub knows : KnowsMatrix problem rows walk.has_rows walk.placing
   pub kind : walk.kind ≡ s.kind
@@ -124,6 +124,7 @@ pub record Stores (problem : Parts) (rows : List MatrixRow) (walk : CertWalk) (s
   pub late : IsLate problem walk.placing s.lines walk.late
   pub last : walk.failed ≡ false → walk.last ≡ s.last
   pub in_tree : walk.failed ≡ false → IsInTree problem walk.walk s.values s.tree s.older
+  pub senders : length walk.walk.values.items ≡ length problem.senders
   pub falls : walk.failed ≡ true → ¬ AllStandSaid problem s
   pub finished : walk.finished ≡ s.finished
 
@@ -133,17 +134,17 @@ pub record StoresMore (problem : Parts) (before after : CertWalk) (more : Said �
       → Stores problem rows after (more s)
   pub placing : after.placing ≡ before.placing
 
--- the walk took these events, over this problem and this matrix
-abbrev pub Taken : CertWalk → Parts → List MatrixRow → List Event → Type 0
-Taken walk problem rows events = Stores problem rows walk (said_by problem (load_in walk.placing) events)
+-- the walk took these events and holes, over this problem and this matrix
+abbrev pub Taken : CertWalk → Parts → List MatrixRow → List Entry → Type 0
+Taken walk problem rows entries = Stores problem rows walk (said_by problem (load_in walk.placing) entries)
 
 -- it stores what something said leaves
 abbrev pub HasStored : Parts → CertWalk → Type 0
 HasStored problem walk = (rows : List MatrixRow) × (s : Said) × Stores problem rows walk s
 
--- it took some events over some matrix
+-- it took some events and holes over some matrix
 abbrev pub HasTaken : CertWalk → Parts → Type 0
-HasTaken walk problem = (rows : List MatrixRow) × (events : List Event) × Taken walk problem rows events
+HasTaken walk problem = (rows : List MatrixRow) × (entries : List Entry) × Taken walk problem rows entries
 
 -- a line shows the frame at a place of the order
 abbrev pub ShowsAt : Parts → Placing → ℕ → FrameLine → Type 0
@@ -181,13 +182,19 @@ IsClosed walk shown (Err fault.RejectedTiming) = ⊥
 IsClosed walk shown (Err fault.RejectedTree) = falls walk ≡ true
 IsClosed walk shown (Err fault.Memory) = ⊥
 
--- the answer is the lesser of the least bound at the open leaves and of 8 times the best, unless something of
--- the trees doesn't stand, or no leaf is open
-abbrev pub IsOpen : CertWalk → Option ℕ → Result Verdict CheckFault → Type 0
-IsOpen walk best (Ok answer) = (falls walk ≡ false) × ((least : ℕ) × (walk.walk.least ≡ Some least)
+-- a bound that may be given
+abbrev pub one_more : Option ℕ → List ℕ
+one_more None = []
+one_more (Some bound) = bound ∷ []
+
+-- the answer is the lesser of the least bound at the open leaves, with one more where it is given, and of 8 times
+-- the best, unless something of the trees doesn't stand, or no leaf is open
+abbrev pub IsOpen : CertWalk → Option ℕ → Option ℕ → Result Verdict CheckFault → Type 0
+IsOpen walk lower best (Ok answer) =
+    (falls walk ≡ false) × ((least : ℕ) × (lowered walk.walk.least (one_more lower) ≡ Some least)
     × (answer ≡ verdict.Between best (lower_with best least)))
-IsOpen walk best (Err fault.RejectedMatrix) = ⊥
-IsOpen walk best (Err fault.RejectedTiming) = ⊥
-IsOpen walk best (Err fault.RejectedTree) =
-    (falls walk ≡ true) ⊎ ((falls walk ≡ false) × (walk.walk.least ≡ None))
-IsOpen walk best (Err fault.Memory) = ⊥
+IsOpen walk lower best (Err fault.RejectedMatrix) = ⊥
+IsOpen walk lower best (Err fault.RejectedTiming) = ⊥
+IsOpen walk lower best (Err fault.RejectedTree) =
+    (falls walk ≡ true) ⊎ ((falls walk ≡ false) × (lowered walk.walk.least (one_more lower) ≡ None))
+IsOpen walk lower best (Err fault.Memory) = ⊥

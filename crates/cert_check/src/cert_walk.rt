@@ -1,27 +1,30 @@
 //! The walk over the events of a certificate.
-ghost use Rattle.std.specs.Prelude.{◌≡◌, ◌++◌, ◌∷◌, ◌||◌, [], List, Some, true, ◌↔◌, IfOk, IsErrOf, IsTrue, OnOk};
+ghost use Rattle.std.specs.Prelude.{◌≡◌, ◌<◌, ◌++◌, ◌∷◌, [], List, None, Some, false, true, ◌↔◌, IfOk, IfSome, IsErrOf, IsTrue, OnOk, length, map};
 ghost use Rattle.pack_model.specs.Problem.{Parts};
 ghost use Rattle.matrix_rows.specs.declared.matrix.MatrixRow.{MatrixRow};
-ghost use Rattle.cert_text.specs.declared.event.Event.{Event};
 ghost use Rattle.cert_text.specs.CertEvents.{cert_events};
 ghost use Rattle.cert_text.specs.Parts.{CertOf, CertParts, unmark_cert};
 ghost use Rattle.cert_text.specs.PlainTree.{plain_of};
-ghost use Rattle.cert_text.specs.Trees.{Marked};
+ghost use Rattle.cert_text.specs.Trees.{Marked, Plain};
+ghost use Rattle.grouping_tree.specs.Grouped.{items_in, labels_of};
+ghost use Rattle.grouping_tree.specs.Partial.{IsPartial};
 ghost use Rattle.bandwidth_bound.specs.Follows.{Holds};
 ghost use Rattle.bandwidth_bound.specs.Goals.{eighths};
 ghost use Rattle.bandwidth_bound.specs.Rule.{MatrixOfKind, TimingOfKind};
 ghost use Rattle.cert_check.specs.Accept.{IsFound, judged_of};
-ghost use Rattle.cert_check.specs.Nodes.{bound_leaf, fail_leaf, inner_node, nodes_of, open_leaf};
-ghost use Rattle.cert_check.specs.Said.{Said, and_said, lemma_begun, main_begun, with_end, with_kind, with_line, with_node, with_nodes};
-ghost use Rattle.cert_check.specs.Trees.{HasRoom, IsAnswer, lower_with};
-ghost use Rattle.cert_check.specs.Taken.{HasOwnParts, IsClosed, IsOpen, IsWhole, ComesNext, HasStored, HasTaken, IsShowing, Stores, StoresMore, Taken, load_in};
+ghost use Rattle.cert_check.specs.Entries.{Entry, as_event, as_hole};
+ghost use Rattle.cert_check.specs.Nodes.{bound_leaf, fail_leaf, hole, inner_node, lowered, nodes_of, open_leaf};
+ghost use Rattle.cert_check.specs.Said.{Said, and_said, lemma_begun, main_begun, said_by, with_end, with_kind, with_line, with_node, with_nodes};
+ghost use Rattle.cert_check.specs.Trees.{HasRoom, lower_with};
+ghost use Rattle.cert_check.specs.Taken.{HasOwnParts, IsClosed, IsOpen, ComesNext, HasStored, HasTaken, IsShowing, Stores, StoresMore, Taken, falls, load_in, one_more};
+ghost use Rattle.cert_check.specs.Told.{IsFoundOf, IsFoundTold, IsVerdictTold};
 
 use crate::aims::in_eighths;
 use crate::fault::CheckFault;
 use crate::kinds::{is_kind_placed, may_leave};
 use crate::placing::{Placing, place};
 use crate::tree::take_tree;
-use crate::walk::{Aim, Walk};
+use crate::walk::{Aim, Walk, least_with};
 use bandwidth_bound::Verdict;
 use cert_text::{Event, FrameLine, Kind, Tree};
 use matrix_text::Matrix;
@@ -96,9 +99,20 @@ impl CertWalk {
         self.finished
     }
 
-    /// The load of the matrix in ticks a common period, where it is placed.
-    fn best(&self) -> Option<u128>
-        ensures { result ≡ load_in self.now.placing }
+    /// What the certificate is to show.
+    pub fn kind(&self) -> Kind
+        ensures value { result ≡ self.now.kind }
+        ensures told { (problem : Parts) (rows : List MatrixRow) (entries : List Entry)
+            → Taken self.now problem rows entries
+            → result ≡ (said_by problem (load_in self.now.placing) entries).kind }
+    {
+        self.kind
+    }
+
+    /// The load of the matrix in ticks a common period, where it is placed, so that it has rows.
+    pub fn best(&self) -> Option<u128>
+        ensures value { result ≡ load_in self.now.placing }
+        ensures room { (problem : Parts) → HasStored problem self.now → HasRoom result }
     {
         match &self.placing {
             None => None,
@@ -106,9 +120,42 @@ impl CertWalk {
         }
     }
 
-    /// Whether something of the trees doesn't stand.
-    pub(crate) fn trees_fail(&self) -> bool
-        ensures { result ≡ self.now.failed || self.now.walk.failed }
+    /// The values of the lemmas so far by sender, 0 where there is none, in eighths of ticks a common period. Once
+    /// the walk has failed they may be any numbers.
+    pub fn lemma_values(&self) -> &[u128]
+        ensures value { result.now ≡ self.now.walk.values.items }
+        ensures senders { (problem : Parts) → HasStored problem self.now
+            → length result.now ≡ length problem.senders }
+        ensures told { (problem : Parts) (rows : List MatrixRow) (entries : List Entry)
+            → Taken self.now problem rows entries → falls self.now ≡ false
+            → result.now ≡ (said_by problem (load_in self.now.placing) entries).values }
+    {
+        self.walk.values()
+    }
+
+    /// The sender over whose items the tree is that the walk is in; none in the main tree.
+    pub fn lemma(&self) -> Option<u32>
+        ensures value { result ≡ self.now.walk.aim.range }
+        ensures there { (problem : Parts) → HasStored problem self.now → falls self.now ≡ false
+            → IfSome result (λ sender. sender < length problem.senders) }
+    {
+        self.walk.range()
+    }
+
+    /// The labels of the place where the walk is: a partial grouping of its tree's items.
+    pub fn path(&self) -> &[u32]
+        requires stored { (problem : Parts) × HasStored problem self.now }
+        requires stands { falls self.now ≡ false }
+        ensures value { result.now ≡ labels_of self.now.walk.partial }
+        ensures legal { (problem : Parts) → HasStored problem self.now
+            → IsPartial (items_in problem.items self.now.walk.aim.range) result.now }
+    {
+        self.walk.place()
+    }
+
+    /// Whether something of the trees doesn't stand, so that the certificate is rejected, whatever follows.
+    pub fn failed(&self) -> bool
+        ensures { result ≡ falls self.now }
     {
         self.failed || self.walk.has_failed()
     }
@@ -161,7 +208,7 @@ impl CertWalk {
         requires { HasStored problem.now self.old }
         ensures { StoresMore problem.now self.old self.new (lemma_begun sender value) }
     {
-        if self.trees_fail() || !self.comes_next(problem, sender) {
+        if self.failed() || !self.comes_next(problem, sender) {
             self.failed = true;
             return;
         }
@@ -180,7 +227,7 @@ impl CertWalk {
         requires { HasStored problem.now self.old }
         ensures { StoresMore problem.now self.old self.new (main_begun (load_in self.old.placing)) }
     {
-        if self.trees_fail() {
+        if self.failed() {
             self.failed = true;
             return;
         }
@@ -272,10 +319,31 @@ impl CertWalk {
     /// Takes the next event. It takes no memory.
     pub fn take(&mut self, problem: &Problem, event: &Event)
         requires { HasTaken self.old problem.now }
-        ensures taken { (rows : List MatrixRow) (events : List Event) → Taken self.old problem.now rows events
-            → Taken self.new problem.now rows (events ++ event.now ∷ []) }
+        ensures taken { (rows : List MatrixRow) (entries : List Entry) → Taken self.old problem.now rows entries
+            → Taken self.new problem.now rows (entries ++ as_event event.now ∷ []) }
     {
         self.take_event(problem, event);
+    }
+
+    /// Takes a hole, of which the walk is told nothing.
+    fn take_hole(&mut self, problem: &Problem)
+        requires { HasStored problem.now self.old }
+        ensures { (tree : Plain) → StoresMore problem.now self.old self.new (with_node (hole tree)) }
+    {
+        if !self.failed {
+            self.walk.take_hole(problem);
+        }
+    }
+
+    /// Takes a hole in the place of all events of the tree that would come next, whatever tree it is. It takes no
+    /// memory.
+    pub fn pass_over(&mut self, problem: &Problem)
+        requires { HasTaken self.old problem.now }
+        ensures taken { (rows : List MatrixRow) (entries : List Entry) (tree : Marked)
+            → Taken self.old problem.now rows entries
+            → Taken self.new problem.now rows (entries ++ as_hole tree ∷ []) }
+    {
+        self.take_hole(problem);
     }
 
     /// Whether the matrix part of the rule holds.
@@ -309,21 +377,31 @@ impl CertWalk {
     fn judge_closed(&self, shown: Verdict) -> Result<Verdict, CheckFault>
         ensures { IsClosed self.now shown result }
     {
-        if self.trees_fail() {
+        if self.failed() {
             return Err(CheckFault::RejectedTree);
         }
         Ok(shown)
     }
 
-    /// The verdict where the trees stand with open leaves.
-    fn judge_open(&self, best: Option<u128>) -> Result<Verdict, CheckFault>
-        requires { HasRoom best }
-        ensures { IsOpen self.now best result }
+    /// The least bound at the open leaves of the main tree, with one more where it is given.
+    fn least_with(&self, lower: Option<u128>) -> Option<u128>
+        ensures { result ≡ lowered self.now.walk.least (one_more lower) }
     {
-        if self.trees_fail() {
+        match lower {
+            None => self.walk.least(),
+            Some(bound) => Some(least_with(self.walk.least(), bound)),
+        }
+    }
+
+    /// The verdict where the trees stand with open leaves, and with one more of the bound that may be given.
+    fn judge_open(&self, lower: Option<u128>, best: Option<u128>) -> Result<Verdict, CheckFault>
+        requires { HasRoom best }
+        ensures { IsOpen self.now lower best result }
+    {
+        if self.failed() {
             return Err(CheckFault::RejectedTree);
         }
-        match self.walk.least() {
+        match self.least_with(lower) {
             None => Err(CheckFault::RejectedTree),
             Some(least) => Ok(Verdict::Between {
                 best,
@@ -333,31 +411,27 @@ impl CertWalk {
     }
 
     /// Judges the trees, where matrix and times hold.
-    fn judge_trees(&self) -> Result<Verdict, CheckFault>
+    fn judge_trees(&self, lower: Option<u128>) -> Result<Verdict, CheckFault>
         requires { (problem : Parts) × HasStored problem self.now }
-        ensures answers { (problem : Parts) (rows : List MatrixRow) (cert : CertParts)
-            → IsWhole problem rows self.now cert → IsAnswer problem (load_in self.now.placing) cert result }
-        ensures known { ¬ (IsErrOf result CheckFault.Memory) }
+        ensures { (problem : Parts) (rows : List MatrixRow) (s : Said) → Stores problem rows self.now s
+            → IsVerdictTold problem (load_in self.now.placing) s lower result }
     {
         let best = self.best();
         let load = best.unwrap_or(0);
         match self.kind {
             Kind::KindPlaced => Ok(Verdict::Placed),
             Kind::KindTimed => Ok(Verdict::Timed { load }),
-            Kind::KindBetween => self.judge_open(best),
+            Kind::KindBetween => self.judge_open(lower, best),
             Kind::KindBest => self.judge_closed(Verdict::Best { load }),
             Kind::KindNoSolution => self.judge_closed(Verdict::NoSolution),
         }
     }
 
-    /// What is found of the certificate that was taken.
-    pub(crate) fn judge(&self) -> Result<Verdict, CheckFault>
+    /// What is found of what was told, where the main tree has one more open leaf of the bound that may be given.
+    pub(crate) fn judge(&self, lower: Option<u128>) -> Result<Verdict, CheckFault>
         requires { (problem : Parts) × HasStored problem self.now }
-        ensures found { (problem : Parts) (rows : List MatrixRow) (cert : CertParts)
-            → IsWhole problem rows self.now cert → IsFound problem rows cert result }
-        ensures holds { (problem : Parts) (rows : List MatrixRow) (cert : CertParts)
-            → IsWhole problem rows self.now cert → OnOk result (Holds (judged_of problem rows cert)) }
-        ensures known { ¬ (IsErrOf result CheckFault.Memory) }
+        ensures { (problem : Parts) (rows : List MatrixRow) (s : Said) → Stores problem rows self.now s
+            → IsFoundTold problem rows (load_in self.now.placing) s lower result }
     {
         if !self.matrix_stands() {
             return Err(CheckFault::RejectedMatrix);
@@ -365,10 +439,11 @@ impl CertWalk {
         if !self.timing_stands() {
             return Err(CheckFault::RejectedTiming);
         }
-        self.judge_trees()
+        self.judge_trees(lower)
     }
 
-    /// The verdict of the certificate whose events were taken, by the acceptance rule.
+    /// The verdict of the certificate whose events were taken, by the acceptance rule, where a hole counts as a
+    /// tree that stands at its place and has no open leaf.
     ///
     /// # Errors
     ///
@@ -376,13 +451,32 @@ impl CertWalk {
     pub fn verdict(&self, problem: &Problem) -> Result<Verdict, CheckFault>
         requires { HasTaken self.now problem.now }
         ensures found { (rows : List MatrixRow) (marked : CertOf Marked) → HasOwnParts (unmark_cert marked)
-            → Taken self.now problem.now rows (cert_events marked)
+            → Taken self.now problem.now rows (map as_event (cert_events marked))
             → IsFound problem.now rows (unmark_cert marked) result }
         ensures holds { (rows : List MatrixRow) (marked : CertOf Marked) → HasOwnParts (unmark_cert marked)
-            → Taken self.now problem.now rows (cert_events marked)
+            → Taken self.now problem.now rows (map as_event (cert_events marked))
             → OnOk result (Holds (judged_of problem.now rows (unmark_cert marked))) }
+        ensures told { (rows : List MatrixRow) (entries : List Entry) → Taken self.now problem.now rows entries
+            → IsFoundOf problem.now rows self.now entries None result }
         ensures known { ¬ (IsErrOf result CheckFault.Memory) }
     {
-        self.judge()
+        self.judge(None)
+    }
+
+    /// The verdict as it would be if the main tree of a certificate of the kind `open` had one more open leaf of
+    /// the bound `lower`, in eighths of ticks a common period, where it is given; for the other kinds the bound
+    /// is not looked at. So where trees were passed over and stand, and the least bound at their open leaves in
+    /// the main tree is given, it is the verdict of the whole certificate.
+    ///
+    /// # Errors
+    ///
+    /// The first part of the rule that fails: `RejectedMatrix`, `RejectedTiming` or `RejectedTree`.
+    pub fn verdict_joined(&self, problem: &Problem, lower: Option<u128>) -> Result<Verdict, CheckFault>
+        requires { HasTaken self.now problem.now }
+        ensures told { (rows : List MatrixRow) (entries : List Entry) → Taken self.now problem.now rows entries
+            → IsFoundOf problem.now rows self.now entries lower result }
+        ensures known { ¬ (IsErrOf result CheckFault.Memory) }
+    {
+        self.judge(lower)
     }
 }

@@ -69,5 +69,5 @@ pub fn check_cert(
     take_lemmas(&mut walk, problem, cert.lemmas());
     take_main_tree(&mut walk, problem, cert.main_tree());
     walk.take_finish();
-    walk.judge()
+    walk.judge(None)
 }

@@ -1,11 +1,12 @@
 //! The walk over the nodes of trees.
 ghost use Rattle.std.specs.Prelude.{◌≡◌, ◌<◌, ◌∷◌, [], ℕ, ◌↔◌, IfOk, IfSome, IsTrue, None, Some, length, replicate, slice_set};
+ghost use Rattle.cert_text.specs.Trees.{Plain};
 ghost use Rattle.bandwidth_bound.specs.Goals.{ClassesFail};
 ghost use Rattle.bandwidth_bound.specs.Prices.{lower8_of};
 ghost use Rattle.grouping_tree.specs.Grouped.{Belongs, items_in, labels_of, range_of, room_of, sender_of};
 ghost use Rattle.grouping_tree.specs.Partial.{IsPartial};
 ghost use Rattle.pack_model.specs.Problem.{Parts};
-ghost use Rattle.cert_check.specs.Nodes.{IsSplit, lowered, inner_node, bound_leaf, open_leaf, fail_leaf};
+ghost use Rattle.cert_check.specs.Nodes.{IsSplit, lowered, inner_node, bound_leaf, open_leaf, fail_leaf, hole};
 ghost use Rattle.cert_check.specs.Walk.{HasPlace, IsReady, IsWalk, Keeps, Passes, StandsNext, TakesOne, items_of, start, start_at, values_in, values_used, way_of};
 
 use bandwidth_bound::{Floors, refutes};
@@ -28,7 +29,7 @@ pub struct Aim {
 }
 
 /// The least of a bound and of what was the least before.
-fn least_with(least: Option<u128>, bound: u128) -> u128
+pub(crate) fn least_with(least: Option<u128>, bound: u128) -> u128
     ensures { Some result ≡ lowered least (bound ∷ []) }
 {
     match least {
@@ -174,6 +175,28 @@ impl Walk {
         self.least
     }
 
+    /// What range of items the tree is over.
+    pub fn range(&self) -> Option<u32>
+        ensures { result ≡ self.now.aim.range }
+    {
+        self.aim.range
+    }
+
+    /// The values of the lemmas by sender.
+    pub fn values(&self) -> &[u128]
+        ensures { result.now ≡ self.now.values.items }
+    {
+        self.values.as_slice()
+    }
+
+    /// The labels of the place of the next node.
+    pub fn place(&self) -> &[u32]
+        requires { (problem : Parts) × IsWalk problem self.now }
+        ensures { result.now ≡ labels_of self.now.partial }
+    {
+        self.partial.labels()
+    }
+
     /// Whether the next node has a place.
     fn has_place(&self) -> bool
         ensures { IsTrue result ↔ HasPlace self.now }
@@ -312,6 +335,20 @@ impl Walk {
         ensures takes { TakesOne problem.now self.old self.new (fail_leaf named.now) }
     {
         if !self.fail_stands(problem, named) {
+            self.failed = true;
+            return;
+        }
+        self.pass(problem);
+    }
+
+    /// Takes a hole: the place of a whole tree is passed over.
+    pub fn take_hole(&mut self, problem: &Problem)
+        requires { IsWalk problem.now self.old }
+        ensures walks { IsWalk problem.now self.new }
+        ensures keeps { Keeps self.old self.new }
+        ensures takes { (tree : Plain) → TakesOne problem.now self.old self.new (hole tree) }
+    {
+        if !self.has_place() {
             self.failed = true;
             return;
         }

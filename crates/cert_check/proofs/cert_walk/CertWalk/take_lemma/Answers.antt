@@ -8,7 +8,7 @@ use Rattle.cert_check.proofs.cert_walk.CertWalk.take_lemma.Goals as goal
 pub returns : goal.returns
 returns c = record {
   stores = λ rows s stores.
-      let stays = sym c.trees_fail.ensures ∙ c.if-trees_fail.false in
+      let stays = sym c.failed.ensures ∙ c.if-failed.false in
       let stay = none_falls c.args.self.now stays in
       begun_stored c.args.problem.now rows c.args.self.now s stores (lemma_aim c.args.sender c.args.value)
       (Some c.args.sender) (set s.values c.args.sender c.args.value) stays

@@ -16,7 +16,7 @@ in_eighths-requires c =
 pub returns : goal.returns
 returns c = record {
   stores = λ rows s stores.
-      let stays = sym c.trees_fail.ensures ∙ c.if-trees_fail.false in
+      let stays = sym c.failed.ensures ∙ c.if-failed.false in
       let stay = none_falls c.args.self.now stays in
       begun_stored c.args.problem.now rows c.args.self.now s stores
       (main_aim s.kind (load_in c.args.self.now.placing)) s.last s.values stays tt c.begin.new.self
