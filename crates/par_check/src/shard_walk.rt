@@ -1,4 +1,15 @@
 //! The walk over the events of a certificate whose marked trees are judged apart.
+ghost use Rattle.std.specs.Prelude.{◌≡◌, ◌≤◌, ◌∷◌, ◌++◌, [], List, None, Some, false, IfOk, IsErrOf, OnOk};
+ghost use Rattle.matrix_rows.specs.declared.matrix.MatrixRow.{MatrixRow};
+ghost use Rattle.cert_text.specs.declared.event.Event.{Event};
+ghost use Rattle.cert_text.specs.CertEvents.{cert_events, tree_events};
+ghost use Rattle.cert_text.specs.Parts.{CertOf, unmark_cert};
+ghost use Rattle.cert_text.specs.Trees.{Marked};
+ghost use Rattle.cert_check.specs.Joined.{IsFoundHolding};
+ghost use Rattle.cert_check.specs.Taken.{HasOwnParts, HasStored, falls};
+ghost use Rattle.par_check.specs.Gathered.{bare_of};
+ghost use Rattle.par_check.specs.Shards.{IsGoal};
+ghost use Rattle.par_check.specs.ShardWalks.{HasShards, MayTake, ShardsTaken, StaysTaken, TakesOn, goal_by, with_part};
 
 use crate::checking::check_shards;
 use crate::gathering::{Gathered, Gathering};
@@ -13,6 +24,20 @@ use std::alloc::Global;
 use std::mem;
 use std::thread::Threads;
 
+/// What the trees of a certificate are to show, as far as a walk took its events.
+fn goal_of(alloc: Global, problem: &Problem, walk: &CertWalk) -> Result<Goal, Memory>
+    requires { HasStored problem.now walk.now }
+    ensures goal { IfOk result (λ goal. goal ≡ goal_by walk.now) }
+    ensures stands { IfOk result (IsGoal problem.now) }
+{
+    let lemmas = Vec::from_slice(alloc, walk.lemma_values())?;
+    Ok(Goal {
+        kind: walk.kind(),
+        best: walk.best(),
+        lemmas: Values::of(lemmas),
+    })
+}
+
 /// A walk over the events of a certificate, which gathers each marked tree into a shard and passes over it.
 #[derive(Drop)]
 pub(crate) struct ShardWalk {
@@ -26,7 +51,7 @@ pub(crate) struct ShardWalk {
     /// The number of the next shard.
     number: usize,
     /// The least lower bound at the open leaves of the shards that were judged, in eighths of ticks a common
-    /// period.
+    /// period, if there is one.
     lower: Option<u128>,
     /// Some shard doesn't stand.
     denied: bool,
@@ -34,7 +59,9 @@ pub(crate) struct ShardWalk {
 
 impl ShardWalk {
     /// A walk that took no event.
-    pub fn new(alloc: Global, problem: &Problem, matrix: &Matrix) -> Result<ShardWalk, Memory> {
+    pub fn new(alloc: Global, problem: &Problem, matrix: &Matrix) -> Result<ShardWalk, Memory>
+        ensures { IfOk result (λ walk. ShardsTaken problem.now matrix.now walk []) }
+    {
         Ok(ShardWalk {
             alloc,
             walk: CertWalk::new(alloc, problem, matrix)?,
@@ -47,17 +74,17 @@ impl ShardWalk {
     }
 
     /// Whether something of the trees is known not to stand.
-    fn has_failed(&self) -> bool {
+    fn has_failed(&self) -> bool
+        ensures { result ≡ self.now.denied || falls self.now.walk }
+    {
         self.denied || self.walk.failed()
     }
 
-    /// Takes the next event. True where the shards are to be judged.
-    pub fn take(
-        &mut self,
-        problem: &Problem,
-        workers: u32,
-        event: Event,
-    ) -> Result<bool, Memory> {
+    /// Takes the next event. True where the shards are to be judged now.
+    pub fn take(&mut self, problem: &Problem, workers: u32, event: Event) -> Result<bool, Memory>
+        requires { MayTake problem.now self.old (event ∷ []) }
+        ensures { OnOk result (TakesOn problem.now self.old self.new (event ∷ [])) }
+    {
         match mem::take(&mut self.gathering) {
             None => Ok(self.walk_on(problem, &event)),
             Some(part) => self.gather(problem, workers, part, event),
@@ -65,7 +92,11 @@ impl ShardWalk {
     }
 
     /// Takes an event that is not one of a shard. True where the main tree begins.
-    fn walk_on(&mut self, problem: &Problem, event: &Event) -> bool {
+    fn walk_on(&mut self, problem: &Problem, event: &Event) -> bool
+        requires taken { MayTake problem.now self.old (event.now ∷ []) }
+        requires none { self.old.gathering ≡ None }
+        ensures { TakesOn problem.now self.old self.new (event.now ∷ []) }
+    {
         self.walk.take(problem, event);
         match event {
             Event::Main => true,
@@ -79,14 +110,17 @@ impl ShardWalk {
         }
     }
 
-    /// Takes an event of a shard. True where it is the last one of a batch.
+    /// Takes an event of a shard, of which there is a part. True where it is the last one of a batch.
     fn gather(
         &mut self,
         problem: &Problem,
         workers: u32,
         part: Gathering,
         event: Event,
-    ) -> Result<bool, Memory> {
+    ) -> Result<bool, Memory>
+        requires { MayTake problem.now (with_part self.old part) (event ∷ []) }
+        ensures { OnOk result (TakesOn problem.now (with_part self.old part) self.new (event ∷ [])) }
+    {
         match part.take(event)? {
             Gathered::Part(part) => {
                 self.gathering = Some(part);
@@ -100,7 +134,12 @@ impl ShardWalk {
     }
 
     /// Keeps a tree as a shard of the batch.
-    fn keep(&mut self, problem: &Problem, tree: Tree) -> Result<(), Memory> {
+    fn keep(&mut self, problem: &Problem, tree: Tree) -> Result<(), Memory>
+        requires taken { MayTake problem.now self.old (tree_events (bare_of tree)) }
+        requires none { self.old.gathering ≡ None }
+        requires stands { falls self.old.walk ≡ false }
+        ensures { OnOk result (TakesOn problem.now self.old self.new (tree_events (bare_of tree))) }
+    {
         let path = Vec::from_slice(self.alloc, self.walk.path())?;
         self.batch.push(Shard {
             number: self.number,
@@ -118,16 +157,6 @@ impl ShardWalk {
         self.walk.lemma().is_none() && self.batch.len() >= 4 * workers as usize
     }
 
-    /// What the trees are to show.
-    fn goal(&self) -> Result<Goal, Memory> {
-        let lemmas = Vec::from_slice(self.alloc, self.walk.lemma_values())?;
-        Ok(Goal {
-            kind: self.walk.kind(),
-            best: self.walk.best(),
-            lemmas: Values::of(lemmas),
-        })
-    }
-
     /// Judges the shards that were gathered.
     pub fn judge<R: Threads + Sync, G: Gate + Sync>(
         &mut self,
@@ -135,12 +164,18 @@ impl ShardWalk {
         problem: &Problem,
         workers: u32,
         gate: &G,
-    ) -> Result<(), Memory> {
+    ) -> Result<(), Memory>
+        requires some { 1 ≤ workers }
+        requires few { workers ≤ 64 }
+        requires taken { HasShards problem.now self.old }
+        ensures judged { OnOk result (self.new.batch.items ≡ []) }
+        ensures stays { OnOk result (StaysTaken problem.now self.old self.new) }
+    {
         let batch = mem::replace(&mut self.batch, Vec::new(self.alloc));
         if self.has_failed() {
             return Ok(());
         }
-        let goal = self.goal()?;
+        let goal = goal_of(self.alloc, problem, &self.walk)?;
         match check_shards(rt, self.alloc, problem, &goal, &batch, workers, gate) {
             Ok(joined) => self.lower = lesser(self.lower, joined.lower),
             Err(CheckFault::Memory) => return Err(Memory),
@@ -150,7 +185,17 @@ impl ShardWalk {
     }
 
     /// The verdict of the certificate whose events were taken, where all shards were judged.
-    pub fn verdict(&self, problem: &Problem) -> Result<Verdict, CheckFault> {
+    ///
+    /// # Errors
+    ///
+    /// The first part of the rule that fails: `RejectedMatrix`, `RejectedTiming` or `RejectedTree`.
+    pub fn verdict(&self, problem: &Problem) -> Result<Verdict, CheckFault>
+        requires taken { HasShards problem.now self.now }
+        requires judged { self.now.batch.items ≡ [] }
+        ensures found { (rows : List MatrixRow) (marked : CertOf Marked) → HasOwnParts (unmark_cert marked)
+            → ShardsTaken problem.now rows self.now (cert_events marked)
+            → IsFoundHolding problem.now rows (unmark_cert marked) result }
+    {
         match self.walk.verdict_joined(problem, self.lower) {
             Ok(shown) => {
                 if self.denied {
