@@ -1,6 +1,7 @@
 -- A certificate that is read piece by piece: what a feed gave so far and a walk took, and what is answered.
-use Rattle.std.proofs.Common.{◌≡◌, ◌<◌, ◌+◌, ◌^◌, ℕ, Bool, true, false, List, [], ◌∷◌, ◌++◌, length, Some, None, Ok, Err, Result, refl, sym, ap, subst, ◌∙◌, arith, length-append, true≢false}
+use Rattle.std.proofs.Common.{◌≡◌, ◌<◌, ◌+◌, ◌^◌, ℕ, Bool, true, false, List, [], ◌∷◌, ◌++◌, length, map, Some, None, Ok, Err, Result, refl, sym, ap, subst, ◌∙◌, arith, length-append, true≢false}
 use Rattle.std.specs.Prelude.{IsSome, OnOk, IsErrOf}
+use Rattle.std.proofs.lemmas.List.{map_push}
 use Rattle.pack_model.specs.Problem.{Parts}
 use Rattle.pack_base.specs.Outside.{Files, SameFaults, bytes_at}
 use Rattle.matrix_rows.specs.declared.matrix.MatrixRow.{MatrixRow}
@@ -26,6 +27,7 @@ use Rattle.cert_check.specs.declared.one_pass.FeedCheck.TheVariants as feed
 use Rattle.cert_check.specs.declared.fault.CheckFault.{CheckFault}
 use Rattle.cert_check.specs.declared.fault.CheckFault.TheVariants as fault
 use Rattle.cert_check.specs.Accept.{IsFound, judged_of}
+use Rattle.cert_check.specs.Entries.{Entry, as_event}
 use Rattle.cert_check.specs.Feed.{FeedFinds, IsFoundIn, IsOfSize, check_of_fault, check_of_feed}
 use Rattle.cert_check.specs.Taken.{HasOwnParts, Taken}
 
@@ -53,7 +55,7 @@ pub record TakesSoFar {F : Type 0} (files : F → Files) (r w g : F → List ℕ
   pub bytes : List ℕ
   pub events : List Event
   pub given : Given reader bytes events
-  pub taken : Taken walk problem rows events
+  pub taken : Taken walk problem rows (map as_event events)
   pub reads : Reads files r w g name 0 old now None bytes
   pub text : reader.ended ≡ true → IsTextOf bytes events
   pub ends : reader.ended ≡ true → Ends (files old) name 0 bytes
@@ -99,8 +101,8 @@ module _ {F : Type 0} {files : F → Files} {r w g : F → List ℕ → ℕ} {na
       → ((bytes : List ℕ) (events : List Event) → Given reader bytes events
       → Feeds files r w g name now next after bytes events (Ok e))
       → after.ended ≡ is_last (Ok e)
-      → ((matrix : List MatrixRow) (events : List Event) → Taken walk problem matrix events
-      → Taken later problem matrix (events ++ e ∷ []))
+      → ((matrix : List MatrixRow) (entries : List Entry) → Taken walk problem matrix entries
+      → Taken later problem matrix (entries ++ as_event e ∷ []))
       → TakesSoFar files r w g name old next problem rows after later
   one_more next after later e answer ended takes =
       let feeds : Feeds files r w g name now next after s.bytes s.events (Ok e) =
@@ -108,7 +110,9 @@ module _ {F : Type 0} {files : F → Files} {r w g : F → List ℕ → ℕ} {na
         bytes = s.bytes ++ feeds.more;
         events = s.events ++ e ∷ [];
         given = feeds.answer.given;
-        taken = takes rows s.events s.taken;
+        taken =
+            subst (Taken later problem rows) (sym (map_push as_event s.events e))
+            (takes rows (map as_event s.events) s.taken);
         reads = reads_then s.reads feeds.reads (omega arith);
         text = λ is. feeds.answer.text (last_is e (sym ended ∙ is));
         ends = λ is.
@@ -182,9 +186,9 @@ module _ {F : Type 0} {files : F → Files} {r w g : F → List ℕ → ℕ} {na
 
   module _ (ended : reader.ended ≡ true) (answer : Result Verdict CheckFault)
       (found : (marked : CertOf Marked) → HasOwnParts (unmark_cert marked)
-      → Taken walk problem rows (cert_events marked) → IsFound problem rows (unmark_cert marked) answer)
+      → Taken walk problem rows (map as_event (cert_events marked)) → IsFound problem rows (unmark_cert marked) answer)
       (holds : (marked : CertOf Marked) → HasOwnParts (unmark_cert marked)
-      → Taken walk problem rows (cert_events marked)
+      → Taken walk problem rows (map as_event (cert_events marked))
       → OnOk answer (Holds (judged_of problem rows (unmark_cert marked)))) where
     -- the bytes are those of the file
     file_is : IsSome (files old) → s.bytes ≡ bytes_at (files old) name
@@ -195,8 +199,8 @@ module _ {F : Type 0} {files : F → Files} {r w g : F → List ℕ → ℕ} {na
     found_in =
         let t : IsTextOf s.bytes s.events = s.text ended in
         let parts : HasOwnParts (unmark_cert t.marked) = text_parts s.bytes (unmark_cert t.marked) t.text in
-        let taken : Taken walk problem rows (cert_events t.marked) =
-        subst (Taken walk problem rows) (sym t.said) s.taken in record {
+        let taken : Taken walk problem rows (map as_event (cert_events t.marked)) =
+        subst (λ es. Taken walk problem rows (map as_event es)) (sym t.said) s.taken in record {
           cert = unmark_cert t.marked;
           text = t.found;
           found = found t.marked parts taken;

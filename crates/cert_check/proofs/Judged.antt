@@ -1,9 +1,10 @@
--- What a walk that took a whole certificate finds of it.
-use Rattle.std.proofs.Common.{◌≡◌, ◌^◌, ◌-◌, ℕ, min, Bool, true, false, List, [], ◌∷◌, length, map, Option, Some, None, IsTrue, Ok, Err, Result, refl, sym, ap, subst, ◌∙◌, arith, true≢false, inl, inr, eqb-true}
+-- What a walk finds of what it was told, and of a whole certificate.
+use Rattle.std.proofs.Common.{◌≡◌, ◌≤◌, ◌^◌, ◌-◌, ℕ, append-nil, min, Bool, true, false, List, [], ◌∷◌, length, map, Option, Some, None, IsTrue, Ok, Err, Result, refl, sym, ap, subst, ◌∙◌, arith, true≢false, inl, inr, eqb-true}
 use Rattle.std.specs.Prelude.{◌↔◌, ◌||◌, ◌&&◌, ◌==◌, not, unwrap_or, OnOk, IsSome}
 use Rattle.std.proofs.lemmas.Bool.{eq-eqb, false≢true}
 use Rattle.pack_model.specs.Problem.{Parts}
 use Rattle.class_frame.specs.Classes.{frames_of_classes, load_of}
+use Rattle.class_frame.specs.Frame.{least}
 use Rattle.matrix_rows.specs.declared.matrix.MatrixRow.{MatrixRow}
 use Rattle.matrix_text.specs.Frames.{grouping_of, order_of}
 use Rattle.matrix_text.specs.Placed.{Placed}
@@ -13,11 +14,12 @@ use Rattle.cert_text.specs.declared.parts.Kind.TheVariants.{KindPlaced, KindTime
 use Rattle.cert_text.specs.Parts.{CertParts, HasParts}
 use Rattle.cert_text.specs.Trees.{Plain}
 use Rattle.bandwidth_bound.specs.Follows.{HasTiming, Holds}
+use Rattle.bandwidth_bound.specs.Goals.{main_goal}
 use Rattle.bandwidth_bound.specs.Lemmas.{values_of}
 use Rattle.bandwidth_bound.specs.Prices.{lower8_of}
-use Rattle.bandwidth_bound.specs.Rule.{MatrixOfKind, TimingOfKind, TreesStand, best_of, open_of}
+use Rattle.bandwidth_bound.specs.Rule.{MainStands, MatrixOfKind, TimingOfKind, TreesStand, best_of, open_of}
 use Rattle.bandwidth_bound.specs.Timing.{TimingStands}
-use Rattle.bandwidth_bound.specs.Trees.{open_places}
+use Rattle.bandwidth_bound.specs.Trees.{TreeStands}
 use Rattle.bandwidth_bound.specs.declared.verdict.Verdict.{Verdict}
 use Rattle.bandwidth_bound.specs.declared.verdict.Verdict.TheVariants as verdict
 use Rattle.cert_check.specs.declared.cert_walk.CertWalk.{CertWalk}
@@ -26,17 +28,18 @@ use Rattle.cert_check.specs.declared.fault.CheckFault.TheVariants as fault
 use Rattle.cert_check.specs.declared.placing.Placing.{Placing}
 use Rattle.cert_check.specs.Accept.{IsFound, judged_of}
 use Rattle.cert_check.specs.Kinds.{has_row, is_kind_placed, is_to_be_placed}
-use Rattle.cert_check.specs.Nodes.{lowered}
-use Rattle.cert_check.specs.Said.{Said, lemmas_said, lines_said, main_said, may_leave_of, with_end}
-use Rattle.cert_check.specs.Taken.{AllStandSaid, IsClosed, IsLate, IsOpen, IsPlaced, IsPlacing, IsWhole, ShowFirst, Stores, falls, load_in}
-use Rattle.cert_check.specs.Trees.{IsAnswer, IsVerdict, TreeOfBest, least_left, verdict_of}
-use Rattle.cert_check.specs.Walk.{start, way_of}
+use Rattle.cert_check.specs.Nodes.{bounds_of, lowered, nodes_of}
+use Rattle.cert_check.specs.Said.{Said, cert_said, lemmas_said, lines_said, main_aim, main_said, may_leave_of, with_end}
+use Rattle.cert_check.specs.Taken.{AllStandSaid, HasOwnParts, IsClosed, IsLate, IsOpen, IsPlaced, IsPlacing, KnowsMatrix, ShowFirst, Stores, falls, goal_said, load_in, one_more}
+use Rattle.cert_check.specs.Told.{IsFoundTold, IsVerdictTold, TreesOfTold, bounds_told, verdict_told}
+use Rattle.cert_check.specs.Trees.{IsAnswer, IsVerdict, TreeOfBest, lower_with, verdict_of}
+use Rattle.cert_check.specs.Walk.{goal_of}
 use Rattle.cert_check.proofs.Found.{holds_placed, holds_without}
 use Rattle.cert_check.proofs.KindLaws.{best_is, found_by_trees, has_rows, lines_without, no_timing, rows_without, timing_from, timing_to, timing_without}
 use Rattle.cert_check.proofs.SaidTrees.{kind_kept, lines_kept, stand_trees, trees_stand, values_are}
 use Rattle.cert_check.proofs.StoreLaws.{none_falls, some_falls, tree_stands}
-use Rattle.cert_check.proofs.TreeLaws.{none_open, some_open}
-use Rattle.cert_check.proofs.Walks.{takes_tree}
+use Rattle.cert_check.proofs.TreeLaws.{bounds, long, lower_same}
+use Rattle.cert_check.proofs.Walks.{lowered_append, lowered_least, lowered_none, lowered_some_of, walked}
 
 -- ---- the matrix
 
@@ -173,24 +176,102 @@ module _ (problem : Parts) (rows : List MatrixRow) (walk : CertWalk) (s : Said)
 -- ---- the trees
 
 -- what each kind is answered
-abbrev pub IsOfKind : Kind → CertWalk → Option ℕ → Result Verdict CheckFault → Type 0
-IsOfKind KindPlaced walk load answer = answer ≡ Ok verdict.Placed
-IsOfKind KindTimed walk load answer = answer ≡ Ok (verdict.Timed (unwrap_or load 0))
-IsOfKind KindBetween walk load answer = IsOpen walk load answer
-IsOfKind KindBest walk load answer = IsClosed walk (verdict.Best (unwrap_or load 0)) answer
-IsOfKind KindNoSolution walk load answer = IsClosed walk verdict.NoSolution answer
+abbrev pub IsOfKind : Kind → CertWalk → Option ℕ → Option ℕ → Result Verdict CheckFault → Type 0
+IsOfKind KindPlaced walk lower load answer = answer ≡ Ok verdict.Placed
+IsOfKind KindTimed walk lower load answer = answer ≡ Ok (verdict.Timed (unwrap_or load 0))
+IsOfKind KindBetween walk lower load answer = IsOpen walk lower load answer
+IsOfKind KindBest walk lower load answer = IsClosed walk (verdict.Best (unwrap_or load 0)) answer
+IsOfKind KindNoSolution walk lower load answer = IsClosed walk verdict.NoSolution answer
+
+-- the same verdict, where the same holds
+pub verdict_same : {P Q : Type 0} {shown other : Verdict} → (P ↔ Q) → (P → shown ≡ other)
+    → (answer : Result Verdict CheckFault) → IsVerdict P shown answer → IsVerdict Q other answer
+verdict_same same turn (Ok v) is = (same.0 is.0, is.1 ∙ turn is.0)
+verdict_same same turn (Err fault.RejectedMatrix) is = is
+verdict_same same turn (Err fault.RejectedTiming) is = is
+verdict_same same turn (Err fault.RejectedTree) is = λ q. is (same.1 q)
+verdict_same same turn (Err fault.Memory) is = is
+
+-- ---- what a walk finds of what it was told
+
+module _ (problem : Parts) (rows : List MatrixRow) (walk : CertWalk) (s : Said)
+    (stores : Stores problem rows walk s) (lower best : Option ℕ) where
+  -- the bounds that were told
+  abbrev told : List ℕ
+  told = bounds_told problem s lower
+
+  all_stand : falls walk ≡ false → AllStandSaid problem s
+  all_stand stays =
+      let stay = none_falls walk stays in tree_stands problem walk.walk s (stores.in_tree stay.0) stay.1
+
+  least_is : falls walk ≡ false → lowered None told ≡ lowered walk.walk.least (one_more lower)
+  least_is stays =
+      let stay = none_falls walk stays in
+      lowered_append None (bounds_of (goal_said problem s.tree) ([] ∷ []) s.tree.nodes) (one_more lower)
+      ∙ ap (λ o. lowered o (one_more lower)) (sym ((stores.in_tree stay.0).takes.least stay.1))
+
+  -- the kinds without open leaves
+  closed_told : (shown : Verdict) (answer : Result Verdict CheckFault) → IsClosed walk shown answer
+      → IsVerdict (AllStandSaid problem s) shown answer
+  closed_told shown (Ok v) closed = (all_stand closed.0, closed.1)
+  closed_told shown (Err fault.RejectedMatrix) closed = closed
+  closed_told shown (Err fault.RejectedTiming) closed = closed
+  closed_told shown (Err fault.RejectedTree) closed = some_falls problem rows walk s stores closed
+  closed_told shown (Err fault.Memory) closed = closed
+
+  -- the kind `open`
+  open_told : (answer : Result Verdict CheckFault) → IsOpen walk lower best answer
+      → IsVerdict (TreesOfTold KindBetween problem s lower) (verdict_told KindBetween problem best s lower)
+      answer
+  open_told (Ok v) found =
+      let there : lowered None told ≡ Some found.1.0 = least_is found.0 ∙ found.1.1 in
+      let some : 1 ≤ length told = lowered_some_of told found.1.0 there in
+      let same : Some found.1.0 ≡ Some (least told) = sym there ∙ lowered_least told some in
+      let here : found.1.0 ≡ least told = cc in
+      ((all_stand found.0, some), found.1.2 ∙ ap (λ n. verdict.Between best (lower_with best n)) here)
+  open_told (Err fault.RejectedMatrix) found = found
+  open_told (Err fault.RejectedTiming) found = found
+  open_told (Err fault.RejectedTree) (inl fell) = λ holds. some_falls problem rows walk s stores fell holds.0
+  open_told (Err fault.RejectedTree) (inr none) = λ holds.
+      lowered_none told (least_is none.0 ∙ none.1) holds.1
+  open_told (Err fault.Memory) found = found
+
+  -- what is answered is that of the trees
+  told_is : (kind : Kind) (answer : Result Verdict CheckFault) → IsOfKind kind walk lower best answer
+      → IsVerdict (TreesOfTold kind problem s lower) (verdict_told kind problem best s lower) answer
+  told_is KindPlaced answer found = subst (IsVerdict _ verdict.Placed) (sym found) (tt, refl)
+  told_is KindTimed answer found =
+      subst (IsVerdict _ (verdict.Timed (unwrap_or best 0))) (sym found) (tt, refl)
+  told_is KindBetween answer found = open_told answer found
+  told_is KindBest answer found = closed_told (verdict.Best (unwrap_or best 0)) answer found
+  told_is KindNoSolution answer found = closed_told verdict.NoSolution answer found
+
+  -- by the kind that is stored
+  pub answer_by : (kind : Kind) → walk.kind ≡ kind → (answer : Result Verdict CheckFault)
+      → IsOfKind kind walk lower best answer → IsVerdictTold problem best s lower answer
+  answer_by kind is answer found =
+      told_is s.kind answer
+      (subst (λ k. IsOfKind k walk lower best answer) (sym is ∙ stores.kind) found)
+
+-- matrix and times hold
+pub found_told : (problem : Parts) (rows : List MatrixRow) (best : Option ℕ) (s : Said) (lower : Option ℕ)
+    → MatrixOfKind s.kind problem rows → TimingOfKind s.kind problem rows s.lines
+    → (answer : Result Verdict CheckFault) → IsVerdictTold problem best s lower answer
+    → IsFoundTold problem rows best s lower answer
+found_told problem rows best s lower matrix timing (Ok v) is = (matrix, timing, is)
+found_told problem rows best s lower matrix timing (Err fault.RejectedMatrix) is = absurd is
+found_told problem rows best s lower matrix timing (Err fault.RejectedTiming) is = absurd is
+found_told problem rows best s lower matrix timing (Err fault.RejectedTree) is = (matrix, timing, is)
+found_told problem rows best s lower matrix timing (Err fault.Memory) is = absurd is
+
+-- ---- a whole certificate
 
 -- the main tree, where there is one
-the_tree : (main : Option Plain) → IsSome main → (tree : Plain) × (main ≡ Some tree)
+pub the_tree : (main : Option Plain) → IsSome main → (tree : Plain) × (main ≡ Some tree)
 the_tree None some = absurd (false≢true some)
 the_tree (Some tree) some = (tree, refl)
 
-module _ (problem : Parts) (rows : List MatrixRow) (walk : CertWalk) (cert : CertParts)
-    (whole : IsWhole problem rows walk cert) where
-  -- the load of the matrix
-  abbrev best : Option ℕ
-  best = load_in walk.placing
-
+module _ (problem : Parts) (rows : List MatrixRow) (best : Option ℕ) (cert : CertParts) where
   -- what was said of the certificate
   abbrev said_with : Option Plain → Said
   said_with main = with_end (main_said best main (lemmas_said cert.lemmas (lines_said problem cert)))
@@ -203,161 +284,169 @@ module _ (problem : Parts) (rows : List MatrixRow) (walk : CertWalk) (cert : Cer
   lines_of_main None = lines_kept problem cert.lemmas (lines_said problem cert)
   lines_of_main (Some tree) = lines_kept problem cert.lemmas (lines_said problem cert)
 
-  kind_is : walk.kind ≡ cert.kind
-  kind_is = whole.stores.kind ∙ kind_of_main cert.main_tree
-
   module _ (tree : Plain) (is : cert.main_tree ≡ Some tree) where
-    -- what is stored
-    stored : Stores problem rows walk (said_with (Some tree))
-    stored = subst (λ t. Stores problem rows walk (said_with t)) is whole.stores
-
-    trees_denied : falls walk ≡ true → ¬ TreesStand problem best (may_leave_of cert.kind) cert
-    trees_denied fell stands =
-        some_falls problem rows walk (said_with (Some tree)) stored fell
-        (stand_trees problem cert best tree is stands)
-
-    trees_shown : falls walk ≡ false
-        → TreesStand problem best (may_leave_of cert.kind) cert × (walk.walk.least ≡ least_left problem cert)
-    trees_shown stays =
-        let stay = none_falls walk stays in
-        let there = stored.in_tree stay.0 in
-        let all : AllStandSaid problem (said_with (Some tree)) =
-        tree_stands problem walk.walk (said_with (Some tree)) there stay.1 in
-        let stand : TreesStand problem best (may_leave_of cert.kind) cert =
-        trees_stand problem cert best tree is all in (
-          stand,
-          (takes_tree _ [] [] start (way_of problem walk.walk) tree refl refl there.takes).least stay.1
-              ∙ ap (λ vs. lowered None (map (lower8_of problem vs problem.items)
-              (open_places problem.items [] tree)))
-              (values_are problem cert best tree stand.lemmas)
-              ∙ ap (λ t. lowered None (map (lower8_of problem (values_of problem cert.lemmas) problem.items)
-              (open_of problem t))) (sym is),
-        )
+    -- the bounds at the open leaves are those that were told
+    bounds_are : TreesStand problem best (may_leave_of cert.kind) cert
+        → bounds_told problem (said_with (Some tree)) None ≡ bounds problem best cert
+    bounds_are stands =
+        let main : TreeStands (main_goal problem (values_of problem cert.lemmas) best (may_leave_of cert.kind)) []
+        tree =
+        subst (MainStands problem (values_of problem cert.lemmas) best (may_leave_of cert.kind)) is stands.main in
+        append-nil (bounds_of (goal_said problem (said_with (Some tree)).tree) ([] ∷ []) (nodes_of tree))
+        ∙ ap (λ vs. bounds_of (goal_of problem vs (main_aim
+        (lemmas_said cert.lemmas (lines_said problem cert)).kind best)) ([] ∷ []) (nodes_of tree))
+        (values_are problem cert best tree stands.lemmas)
+        ∙ ap (λ k. bounds_of (goal_of problem (values_of problem cert.lemmas) (main_aim k best)) ([] ∷ [])
+        (nodes_of tree)) (kind_kept problem cert.lemmas (lines_said problem cert))
+        ∙ (walked (main_goal problem (values_of problem cert.lemmas) best (may_leave_of cert.kind)) [] [] tree
+        main).opens
+        ∙ ap (λ t. map (lower8_of problem (values_of problem cert.lemmas) problem.items) (open_of problem t))
+        (sym is)
 
     -- the kinds without open leaves
-    closed_verdict : may_leave_of cert.kind ≡ false → (shown : Verdict) (answer : Result Verdict CheckFault)
-        → IsClosed walk shown answer → IsVerdict (TreesStand problem best false cert) shown answer
-    closed_verdict leave shown answer closed =
-        subst (λ b. IsVerdict (TreesStand problem best b cert) shown answer) leave (by answer closed)
-      where
-        by : (answer : Result Verdict CheckFault) → IsClosed walk shown answer
-            → IsVerdict (TreesStand problem best (may_leave_of cert.kind) cert) shown answer
-        by (Ok v) closed = ((trees_shown closed.0).0, closed.1)
-        by (Err fault.RejectedMatrix) closed = closed
-        by (Err fault.RejectedTiming) closed = closed
-        by (Err fault.RejectedTree) closed = trees_denied closed
-        by (Err fault.Memory) closed = absurd closed
+    closed_same : (leave : Bool) → may_leave_of cert.kind ≡ leave
+        → AllStandSaid problem (said_with (Some tree)) ↔ TreesStand problem best leave cert
+    closed_same leave e = (
+      λ all. subst (λ b. TreesStand problem best b cert) e (trees_stand problem cert best tree is all),
+      λ stands.
+          stand_trees problem cert best tree is (subst (λ b. TreesStand problem best b cert) (sym e) stands),
+    )
 
     -- the kind `open`
-    open_verdict : may_leave_of cert.kind ≡ true → (answer : Result Verdict CheckFault)
-        → IsOpen walk best answer
-        → IsVerdict (TreeOfBest KindBetween problem best cert) (verdict_of KindBetween problem best cert)
-        answer
-    open_verdict leave (Ok v) found =
-        let trees = trees_shown found.0 in
-        let shown = some_open problem best cert found.1.0
-        (subst (λ b. TreesStand problem best b cert) leave trees.0) (sym trees.1 ∙ found.1.1) in
-        (shown.0, found.1.2 ∙ shown.1)
-    open_verdict leave (Err fault.RejectedMatrix) found = found
-    open_verdict leave (Err fault.RejectedTiming) found = found
-    open_verdict leave (Err fault.RejectedTree) (inl fell) = λ holds.
-        trees_denied fell (subst (λ b. TreesStand problem best b cert) (sym leave) holds.0)
-    open_verdict leave (Err fault.RejectedTree) (inr none) =
-        none_open problem best cert (sym (trees_shown none.0).1 ∙ none.1)
-    open_verdict leave (Err fault.Memory) found = absurd found
+    open_same : may_leave_of cert.kind ≡ true
+        → TreesOfTold KindBetween problem (said_with (Some tree)) None ↔ TreeOfBest KindBetween problem best cert
+    open_same e = (
+      λ holds.
+          let stands = trees_stand problem cert best tree is holds.0 in (
+            subst (λ b. TreesStand problem best b cert) e stands,
+            omega (arith, holds.1, ap length (bounds_are stands), long problem best cert),
+          ),
+      λ holds.
+          let stands = subst (λ b. TreesStand problem best b cert) (sym e) holds.0 in (
+            stand_trees problem cert best tree is stands,
+            omega (arith, holds.1, ap length (bounds_are stands), long problem best cert),
+          ),
+    )
+
+    open_verdict : TreesOfTold KindBetween problem (said_with (Some tree)) None
+        → verdict_told KindBetween problem best (said_with (Some tree)) None
+        ≡ verdict_of KindBetween problem best cert
+    open_verdict holds =
+        ap (λ ns. verdict.Between best (lower_with best (least ns)))
+        (bounds_are (trees_stand problem cert best tree is holds.0))
+        ∙ ap (verdict.Between best) (lower_same problem best cert best)
 
   -- the main tree of a kind that has one
-  tree_of : (kind : Kind) → cert.kind ≡ kind → HasParts kind cert.frames cert.lemmas cert.main_tree
-  tree_of kind is = subst (λ k. HasParts k cert.frames cert.lemmas cert.main_tree) is whole.parts
+  tree_of : (kind : Kind) → HasOwnParts cert → cert.kind ≡ kind
+      → HasParts kind cert.frames cert.lemmas cert.main_tree
+  tree_of kind parts is = subst (λ k. HasParts k cert.frames cert.lemmas cert.main_tree) is parts
 
-  -- what is answered is that of the trees
-  answer_is : (kind : Kind) → cert.kind ≡ kind → (answer : Result Verdict CheckFault)
-      → IsOfKind kind walk best answer
-      → IsVerdict (TreeOfBest kind problem best cert) (verdict_of kind problem best cert) answer
-  answer_is KindPlaced is answer found = subst (IsVerdict _ verdict.Placed) (sym found) (tt, refl)
-  answer_is KindTimed is answer found =
-      subst (IsVerdict _ (verdict.Timed (unwrap_or best 0))) (sym found) (tt, refl)
-  answer_is KindBetween is answer found =
-      let tree = the_tree cert.main_tree (tree_of KindBetween is) in
-      open_verdict tree.0 tree.1 (ap may_leave_of is) answer found
-  answer_is KindBest is answer found =
-      let tree = the_tree cert.main_tree (tree_of KindBest is) in
-      closed_verdict tree.0 tree.1 (ap may_leave_of is) (verdict.Best (unwrap_or best 0)) answer found
-  answer_is KindNoSolution is answer found =
-      let tree = the_tree cert.main_tree (tree_of KindNoSolution is) in
-      closed_verdict tree.0 tree.1 (ap may_leave_of is) verdict.NoSolution answer found
+  -- what holds of the certificate is what holds of what it says
+  abbrev IsSame : Kind → Option Plain → Type 0
+  IsSame kind main =
+      (TreesOfTold kind problem (said_with main) None ↔ TreeOfBest kind problem best cert)
+      × (TreesOfTold kind problem (said_with main) None
+      → verdict_told kind problem best (said_with main) None ≡ verdict_of kind problem best cert)
 
-  -- by the kind that is stored
-  pub answer_by : (kind : Kind) → walk.kind ≡ kind → (answer : Result Verdict CheckFault)
-      → IsOfKind kind walk best answer → IsAnswer problem best cert answer
-  answer_by kind is answer found =
-      let same : cert.kind ≡ kind = sym kind_is ∙ is in
-      subst (λ k. IsVerdict (TreeOfBest k problem best cert) (verdict_of k problem best cert) answer) (sym same)
-      (answer_is kind same answer found)
+  trees_same : HasOwnParts cert → (kind : Kind) → cert.kind ≡ kind → IsSame kind cert.main_tree
+  trees_same parts KindPlaced is = ((λ h. h, λ h. h), λ h. refl)
+  trees_same parts KindTimed is = ((λ h. h, λ h. h), λ h. refl)
+  trees_same parts KindBetween is =
+      let tree = the_tree cert.main_tree (tree_of KindBetween parts is) in
+      subst (IsSame KindBetween) (sym tree.1)
+      (open_same tree.0 tree.1 (ap may_leave_of is), open_verdict tree.0 tree.1)
+  trees_same parts KindBest is =
+      let tree = the_tree cert.main_tree (tree_of KindBest parts is) in
+      subst (IsSame KindBest) (sym tree.1) (closed_same tree.0 tree.1 false (ap may_leave_of is), λ h. refl)
+  trees_same parts KindNoSolution is =
+      let tree = the_tree cert.main_tree (tree_of KindNoSolution parts is) in
+      subst (IsSame KindNoSolution) (sym tree.1)
+      (closed_same tree.0 tree.1 false (ap may_leave_of is), λ h. refl)
 
-  -- ---- what is tested
+  answer_told : HasOwnParts cert → (answer : Result Verdict CheckFault)
+      → IsVerdictTold problem best (said_with cert.main_tree) None answer → IsAnswer problem best cert answer
+  answer_told parts answer told =
+      let same : IsSame cert.kind cert.main_tree = trees_same parts cert.kind refl in
+      verdict_same same.0 same.1 answer
+      (subst (λ k. IsVerdict (TreesOfTold k problem (said_with cert.main_tree) None)
+      (verdict_told k problem best (said_with cert.main_tree) None) answer) (kind_of_main cert.main_tree) told)
 
-  -- the matrix
-  pub matrix_asked : (stands : Bool)
-      → ((s : Said) → Stores problem rows walk s → IsTrue stands ↔ MatrixOfKind s.kind problem rows)
-      → IsTrue stands ↔ MatrixOfKind cert.kind problem rows
-  matrix_asked stands asks =
-      subst (λ k. IsTrue stands ↔ MatrixOfKind k problem rows) (kind_of_main cert.main_tree)
-      (asks (said_with cert.main_tree) whole.stores)
+-- ---- all parts
 
-  -- the times
-  pub timing_asked : (stands : Bool)
-      → ((s : Said) → Stores problem rows walk s → MatrixOfKind s.kind problem rows
-      → IsTrue stands ↔ TimingOfKind s.kind problem rows s.lines)
-      → MatrixOfKind cert.kind problem rows → IsTrue stands ↔ TimingOfKind cert.kind problem rows cert.frames
-  timing_asked stands asks matrix =
-      subst (λ ls. IsTrue stands ↔ TimingOfKind cert.kind problem rows ls) (lines_of_main cert.main_tree)
-      (subst (λ k. IsTrue stands ↔ TimingOfKind k problem rows (said_with cert.main_tree).lines)
-      (kind_of_main cert.main_tree)
-      (asks (said_with cert.main_tree) whole.stores
-      (subst (λ k. MatrixOfKind k problem rows) (sym (kind_of_main cert.main_tree)) matrix)))
-
-  -- ---- all parts
-
+module _ (problem : Parts) (rows : List MatrixRow) (some : Bool) (placing : Option Placing) (cert : CertParts)
+    (knows : KnowsMatrix problem rows some placing) where
   -- the load is that of the rows
-  best_same : (placing : Option Placing) → IsPlaced problem rows placing → MatrixOfKind cert.kind problem rows
-      → best_of problem rows ≡ load_in placing
+  best_same : (p : Option Placing) → IsPlaced problem rows p → MatrixOfKind cert.kind problem rows
+      → best_of problem rows ≡ load_in p
   best_same None other matrix =
       none_of rows (without_placing cert.kind problem rows other matrix) matrix
     where
       none_of : (rs : List MatrixRow) → is_to_be_placed cert.kind rs ≡ false → MatrixOfKind cert.kind problem rs
           → best_of problem rs ≡ None
       none_of rs is m = ap (best_of problem) (rows_without cert.kind problem rs is m)
-  best_same (Some placing) is matrix =
-      best_is problem rows placing.load (has_rows problem rows whole.stores.knows.stands is.placed) is.load
+  best_same (Some p) is matrix =
+      best_is problem rows p.load (has_rows problem rows knows.stands is.placed) is.load
 
-  load_same : (placing : Option Placing) → IsPlaced problem rows placing → MatrixOfKind cert.kind problem rows
+  load_same : (p : Option Placing) → IsPlaced problem rows p → MatrixOfKind cert.kind problem rows
       → HasTiming cert.kind rows
-      → unwrap_or (load_in placing) 0 ≡ load_of problem problem.items (grouping_of problem rows)
+      → unwrap_or (load_in p) 0 ≡ load_of problem problem.items (grouping_of problem rows)
   load_same None other matrix has =
       absurd (no_timing cert.kind rows (without_placing cert.kind problem rows other matrix) has)
-  load_same (Some placing) is matrix has = is.load
+  load_same (Some p) is matrix has = is.load
 
-  pub found_whole : MatrixOfKind cert.kind problem rows → TimingOfKind cert.kind problem rows cert.frames
-      → (answer : Result Verdict CheckFault) → IsAnswer problem (load_in walk.placing) cert answer
+  -- what the certificate says
+  abbrev best : Option ℕ
+  best = load_in placing
+
+  abbrev said : Said
+  said = cert_said problem best cert
+
+  matrix : MatrixOfKind said.kind problem rows → MatrixOfKind cert.kind problem rows
+  matrix m = subst (λ k. MatrixOfKind k problem rows) (kind_of_main problem rows best cert cert.main_tree) m
+
+  unplaced : MatrixOfKind cert.kind problem rows → MatrixOfKind said.kind problem rows
+  unplaced m =
+      subst (λ k. MatrixOfKind k problem rows) (sym (kind_of_main problem rows best cert cert.main_tree)) m
+
+  timing : TimingOfKind said.kind problem rows said.lines → TimingOfKind cert.kind problem rows cert.frames
+  timing t =
+      subst (λ k. TimingOfKind k problem rows cert.frames) (kind_of_main problem rows best cert cert.main_tree)
+      (subst (TimingOfKind said.kind problem rows) (lines_of_main problem rows best cert cert.main_tree) t)
+
+  untimed : TimingOfKind cert.kind problem rows cert.frames → TimingOfKind said.kind problem rows said.lines
+  untimed t =
+      subst (TimingOfKind said.kind problem rows) (sym (lines_of_main problem rows best cert cert.main_tree))
+      (subst (λ k. TimingOfKind k problem rows cert.frames)
+      (sym (kind_of_main problem rows best cert cert.main_tree)) t)
+
+  by_trees : HasOwnParts cert → (answer : Result Verdict CheckFault) → MatrixOfKind said.kind problem rows
+      → TimingOfKind said.kind problem rows said.lines → IsVerdictTold problem best said None answer
       → IsFound problem rows cert answer
-  found_whole matrix timing answer judged =
-      found_by_trees problem rows cert (load_in walk.placing) matrix timing
-      (best_same walk.placing whole.stores.knows.placed matrix)
-      (load_same walk.placing whole.stores.knows.placed matrix)
-      answer judged
+  by_trees parts answer m t told =
+      found_by_trees problem rows cert best (matrix m) (timing t)
+      (best_same placing knows.placed (matrix m)) (load_same placing knows.placed (matrix m)) answer
+      (answer_told problem rows best cert parts answer told)
+
+  -- what was found of that is found of it
+  pub found_cert : HasOwnParts cert → (answer : Result Verdict CheckFault)
+      → IsFoundTold problem rows best said None answer → IsFound problem rows cert answer
+  found_cert parts (Ok shown) f = by_trees parts (Ok shown) f.0 f.1 f.2
+  found_cert parts (Err fault.RejectedMatrix) f = λ m. f (unplaced m)
+  found_cert parts (Err fault.RejectedTiming) f = (matrix f.0, λ t. f.1 (untimed t))
+  found_cert parts (Err fault.RejectedTree) f = by_trees parts (Err fault.RejectedTree) f.0 f.1 f.2
+  found_cert parts (Err fault.Memory) f = absurd f
 
   -- what follows
-  pub holds_whole : (answer : Result Verdict CheckFault) → IsFound problem rows cert answer
+  pub holds_cert : (answer : Result Verdict CheckFault) → IsFound problem rows cert answer
       → OnOk answer (Holds (judged_of problem rows cert))
-  holds_whole answer found = by walk.placing whole.stores.knows.placed answer found
+  holds_cert answer found = by placing knows.placed answer found
     where
-      by : (placing : Option Placing) → IsPlaced problem rows placing → (answer : Result Verdict CheckFault)
+      by : (p : Option Placing) → IsPlaced problem rows p → (answer : Result Verdict CheckFault)
           → IsFound problem rows cert answer → OnOk answer (Holds (judged_of problem rows cert))
       by None other (Ok shown) found =
-          holds_without problem rows cert whole.stores.knows.stands
+          holds_without problem rows cert knows.stands
           (without_placing cert.kind problem rows other found.rule.matrix) (Ok shown) found
       by None other (Err why) found = tt
-      by (Some placing) is answer found =
-          holds_placed problem rows cert whole.stores.knows.stands whole.stores.knows.sorted is.one_place
+      by (Some p) is answer found =
+          holds_placed problem rows cert knows.stands knows.sorted is.one_place
           is.legal is.named answer found

@@ -1,7 +1,12 @@
 pub mod AcceptedLaws
+pub mod AimLaws
 pub mod BusLaws
 pub mod FeedChecks
+pub mod FillLaws
 pub mod Found
+pub mod HoleLaws
+pub mod HoleSteps
+pub mod JoinedLaws
 pub mod Judged
 pub mod KindLaws
 pub mod LemmaLaws

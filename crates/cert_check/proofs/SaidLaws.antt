@@ -10,8 +10,9 @@ use Rattle.cert_text.specs.declared.parts.FrameLine.{FrameLine}
 use Rattle.cert_text.specs.CertEvents.{cert_events, lemma_events, main_events, tree_events, trees_events}
 use Rattle.cert_text.specs.Parts.{CertOf, LemmaOf, unmark_cert, unmark_lemma}
 use Rattle.cert_text.specs.Trees.{Marked, Markeds, count, m_bound, m_fail, m_inner, m_left, m_more, m_none, shard, unmark, unmark_all}
+use Rattle.cert_check.specs.Entries.{Entry, as_event}
 use Rattle.cert_check.specs.Nodes.{Node, count_trees, inner_node, nodes_of, nodes_of_each}
-use Rattle.cert_check.specs.Said.{Said, and_said, cert_said, lemma_begun, lemma_said, lemmas_said, lines_said, main_said, main_begun, nothing_said, said_by, with_end, with_kind, with_line, with_lines, with_node, with_nodes}
+use Rattle.cert_check.specs.Said.{Said, and_entry, and_said, cert_said, lemma_begun, lemma_said, lemmas_said, lines_said, main_said, main_begun, nothing_said, said_by, with_end, with_kind, with_line, with_lines, with_node, with_nodes}
 
 -- with these nodes of the tree
 abbrev to_nodes : Said → List Node → Said
@@ -79,18 +80,32 @@ module _ (best : Option ℕ) where
   said_main None s = refl
   said_main (Some tree) s = said_tree tree (main_begun best s) (event.Finish ∷ [])
 
+-- events are entries
+pub all_events : (best : Option ℕ) (s : Said) (es : List Event)
+    → fold (and_entry best) s (map as_event es) ≡ fold (and_said best) s es
+all_events best s [] = refl
+all_events best s (e ∷ es) = all_events best (and_said best s e) es
+
+-- those of a tree say its nodes
+pub tree_said : (best : Option ℕ) (t : Marked) (s : Said)
+    → fold (and_entry best) s (map as_event (tree_events t)) ≡ with_nodes (nodes_of (unmark t)) s
+tree_said best t s =
+    all_events best s (tree_events t) ∙ ap (fold (and_said best) s) (sym (append-nil (tree_events t)))
+    ∙ said_tree best t s []
+
 -- the events of a certificate say it
 pub said_cert : (problem : Parts) (best : Option ℕ) (c : CertOf Marked)
-    → said_by problem best (cert_events c) ≡ cert_said problem best (unmark_cert c)
+    → said_by problem best (map as_event (cert_events c)) ≡ cert_said problem best (unmark_cert c)
 said_cert problem best c =
     let end = main_events c.main_tree ++ event.Finish ∷ [] in
     let s : Said = lines_said problem (unmark_cert c) in
-    said_lines best c.frames (with_kind c.kind (nothing_said problem))
+    all_events best (nothing_said problem) (cert_events c)
+    ∙ said_lines best c.frames (with_kind c.kind (nothing_said problem))
     (flat_map lemma_events c.lemmas ++ end)
     ∙ said_lemmas best c.lemmas s end
     ∙ said_main best c.main_tree (lemmas_said (map unmark_lemma c.lemmas) s)
 
--- one event more says what it does
-pub said_more : (problem : Parts) (best : Option ℕ) (es : List Event) (e : Event)
-    → and_said best (said_by problem best es) e ≡ said_by problem best (es ++ e ∷ [])
-said_more problem best es e = sym (fold-append (and_said best) (nothing_said problem) es (e ∷ []))
+-- one entry more says what it does
+pub said_more : (problem : Parts) (best : Option ℕ) (es : List Entry) (e : Entry)
+    → and_entry best (said_by problem best es) e ≡ said_by problem best (es ++ e ∷ [])
+said_more problem best es e = sym (fold-append (and_entry best) (nothing_said problem) es (e ∷ []))

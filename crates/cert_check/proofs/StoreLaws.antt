@@ -68,6 +68,7 @@ nodes_passed problem walk nodes fell = record {
               takes_failed (goal_said problem s.tree) start (way_of problem walk.walk) s.tree.nodes nodes
               (sym (ap (λ b. b || walk.walk.failed) e) ∙ fell) old.takes;
         };
+    senders = stores.senders;
     falls = λ e all. stores.falls e (fewer s all);
     finished = stores.finished;
   };
@@ -100,6 +101,7 @@ module _ (problem : Parts) (walk : CertWalk) (nodes : List Node) where
       late = stores.late;
       last = stores.last;
       in_tree = λ e. in_tree_now s (stores.in_tree stays);
+      senders = ap length keeps.values ∙ stores.senders;
       falls = λ e. absurd (true≢false (sym e ∙ stays));
       finished = stores.finished;
     };
@@ -198,6 +200,7 @@ module _ (problem : Parts) (rows : List MatrixRow) (walk : CertWalk) (s : Said)
               subst (λ way. Takes (goal_of problem (values_in aim.range s.values) aim) start way [])
               (sym begins) (takes_none (goal_of problem (values_in aim.range s.values) aim) start);
         };
+        senders = walks.ready.senders;
         falls = λ e. absurd (true≢false (sym e ∙ stay.0));
         finished = stores.finished;
       }
@@ -294,6 +297,7 @@ module _ (problem : Parts) (walk : CertWalk) (line : FrameLine) where
           (next_place rows s stores) showing;
       last = stores.last;
       in_tree = stores.in_tree;
+      senders = stores.senders;
       falls = stores.falls;
       finished = stores.finished;
     };
@@ -312,6 +316,7 @@ module _ (problem : Parts) (walk : CertWalk) where
       late = stores.late;
       last = stores.last;
       in_tree = stores.in_tree;
+      senders = stores.senders;
       falls = stores.falls;
       finished = stores.finished;
     };
@@ -327,6 +332,7 @@ module _ (problem : Parts) (walk : CertWalk) where
       late = stores.late;
       last = stores.last;
       in_tree = stores.in_tree;
+      senders = stores.senders;
       falls = stores.falls;
       finished = refl;
     };

@@ -59,6 +59,7 @@ module _ (problem : Parts) (rows : List MatrixRow) (some : Bool) (placing : Opti
           subst (λ way. Takes (goal_of problem (replicate (length problem.senders) 0) no_aim) start way [])
           (sym begins) (takes_none (goal_of problem (replicate (length problem.senders) 0) no_aim) start);
     };
+    senders = walks.ready.senders;
     falls = λ e. absurd (true≢false (sym e));
     finished = refl;
   }

@@ -1,9 +1,8 @@
 -- The events of a subtree take a walk from a place to the next.
-use Rattle.std.proofs.Common.{◌≡◌, ◌++◌, ◌∷◌, ◌∙◌, ℕ, [], List, Option, None, Some, append-nil, ap, cond, false, fold, refl, subst, sym}
+use Rattle.std.proofs.Common.{◌≡◌, ◌++◌, ◌∷◌, ◌∙◌, ℕ, [], List, Option, None, Some, ap, cond, false, map, refl, subst, sym}
 use Rattle.std.proofs.lemmas.List.Sums.{fold-append}
 use Rattle.pack_model.specs.Problem.{Parts}
 use Rattle.matrix_rows.specs.declared.matrix.MatrixRow.{MatrixRow}
-use Rattle.cert_text.specs.declared.event.Event.{Event}
 use Rattle.cert_text.specs.CertEvents.{tree_events}
 use Rattle.cert_text.specs.Trees.{Marked, Plain, unmark}
 use Rattle.grouping_tree.specs.Grouped.{labels_of}
@@ -11,12 +10,13 @@ use Rattle.grouping_tree.specs.Walk.{places_left}
 use Rattle.bandwidth_bound.specs.Trees.{TreeStands}
 use Rattle.cert_check.specs.declared.cert_walk.CertWalk.{CertWalk}
 use Rattle.cert_check.specs.declared.placing.Placing.{Placing}
+use Rattle.cert_check.specs.Entries.{Entry, as_event}
 use Rattle.cert_check.specs.Laws.{SubtreeTaken}
 use Rattle.cert_check.specs.Nodes.{NodesStand, TakesTree, nodes_of}
-use Rattle.cert_check.specs.Said.{Said, and_said, nothing_said, said_by, with_nodes}
+use Rattle.cert_check.specs.Said.{Said, and_entry, nothing_said, said_by, with_nodes}
 use Rattle.cert_check.specs.Taken.{AllStandSaid, IsInTree, IsPlaced, Stores, falls, goal_said, load_in, way_in}
 use Rattle.cert_check.specs.Walk.{goal_in, goal_of, items_of, start, way_of}
-use Rattle.cert_check.proofs.SaidLaws.{said_tree}
+use Rattle.cert_check.proofs.SaidLaws.{tree_said}
 use Rattle.cert_check.proofs.StoreLaws.{none_falls, some_falls}
 use Rattle.cert_check.proofs.Walks.{stand_append, takes_further, takes_tree, walked}
 
@@ -77,7 +77,7 @@ module _ (problem : Parts) (rows : List MatrixRow) (before after : CertWalk) (s 
       })
 
 -- the load is that of the rows
-load_same : (problem : Parts) (rows : List MatrixRow) (a b : Option Placing) → IsPlaced problem rows a
+pub load_same : (problem : Parts) (rows : List MatrixRow) (a b : Option Placing) → IsPlaced problem rows a
     → IsPlaced problem rows b → load_in a ≡ load_in b
 load_same problem rows None None this other = refl
 load_same problem rows None (Some b) this other = absurd (this other.placed)
@@ -85,19 +85,18 @@ load_same problem rows (Some a) None this other = absurd (other this.placed)
 load_same problem rows (Some a) (Some b) this other = ap Some (this.load ∙ sym other.load)
 
 -- what the events say
-said_subtree : (problem : Parts) (best : Option ℕ) (events : List Event) (tree : Marked)
-    → said_by problem best (events ++ tree_events tree)
-    ≡ with_nodes (nodes_of (unmark tree)) (said_by problem best events)
-said_subtree problem best events tree =
-    fold-append (and_said best) (nothing_said problem) events (tree_events tree)
-    ∙ ap (fold (and_said best) (said_by problem best events)) (sym (append-nil (tree_events tree)))
-    ∙ said_tree best tree (said_by problem best events) []
+said_subtree : (problem : Parts) (best : Option ℕ) (entries : List Entry) (tree : Marked)
+    → said_by problem best (entries ++ map as_event (tree_events tree))
+    ≡ with_nodes (nodes_of (unmark tree)) (said_by problem best entries)
+said_subtree problem best entries tree =
+    fold-append (and_entry best) (nothing_said problem) entries (map as_event (tree_events tree))
+    ∙ tree_said best tree (said_by problem best entries)
 
 pub subtree_taken : SubtreeTaken
-subtree_taken problem rows before after events tree first taken stays place =
-    subtree problem rows before after (said_by problem (load_in before.placing) events) (unmark tree) first
+subtree_taken problem rows before after entries tree first now stays place =
+    subtree problem rows before after (said_by problem (load_in before.placing) entries) (unmark tree) first
     (subst (Stores problem rows after)
-    (ap (λ best. said_by problem best (events ++ tree_events tree))
-    (load_same problem rows after.placing before.placing taken.knows.placed first.knows.placed)
-    ∙ said_subtree problem (load_in before.placing) events tree) taken)
+    (ap (λ best. said_by problem best (entries ++ map as_event (tree_events tree)))
+    (load_same problem rows after.placing before.placing now.knows.placed first.knows.placed)
+    ∙ said_subtree problem (load_in before.placing) entries tree) now)
     stays place

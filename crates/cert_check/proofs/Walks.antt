@@ -279,7 +279,7 @@ module _ (goal : Goal) where
 -- ---- a walk over a whole tree
 
 -- the least of some numbers, as a walk finds it
-lowered_some : (n : ℕ) (xs : List ℕ) → lowered (Some n) xs ≡ Some (fold min n xs)
+pub lowered_some : (n : ℕ) (xs : List ℕ) → lowered (Some n) xs ≡ Some (fold min n xs)
 lowered_some n [] = refl
 lowered_some n (x ∷ xs) = lowered_some (min n x) xs
 

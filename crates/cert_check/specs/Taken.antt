@@ -25,7 +25,7 @@ use Rattle.cert_check.specs.declared.walk.Walk.{Walk}
 use Rattle.cert_check.specs.Kinds.{has_row}
 use Rattle.cert_check.specs.Entries.{Entry}
 use Rattle.cert_check.specs.Nodes.{NodesStand, Takes, Way, lowered}
-use Rattle.cert_check.specs.Said.{Said, TreeSaid, cert_said, said_by}
+use Rattle.cert_check.specs.Said.{Said, TreeSaid, said_by}
 use Rattle.cert_check.specs.Trees.{lower_with}
 use Rattle.cert_check.specs.Walk.{IsWalk, goal_of, start, values_in, values_used, way_of}
 
@@ -160,11 +160,6 @@ IsShowing problem (Some placing) place line shows = IsTrue shows ↔ ShowsAt pro
 -- a certificate has the parts of its kind
 abbrev pub HasOwnParts : CertParts → Type 0
 HasOwnParts cert = HasParts cert.kind cert.frames cert.lemmas cert.main_tree
-
--- it stores a whole certificate, which has the parts of its kind
-pub record IsWhole (problem : Parts) (rows : List MatrixRow) (walk : CertWalk) (cert : CertParts) : Type 0 where
-  pub parts : HasOwnParts cert
-  pub stores : Stores problem rows walk (cert_said problem (load_in walk.placing) cert)
 
 -- something of the trees doesn't stand
 abbrev pub falls : CertWalk → Bool

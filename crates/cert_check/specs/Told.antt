@@ -16,7 +16,7 @@ use Rattle.cert_check.specs.Entries.{Entry}
 use Rattle.cert_check.specs.Nodes.{bounds_of}
 use Rattle.cert_check.specs.Said.{Said, said_by}
 use Rattle.cert_check.specs.Taken.{AllStandSaid, goal_said, load_in, one_more}
-use Rattle.cert_check.specs.Trees.{lower_with}
+use Rattle.cert_check.specs.Trees.{IsVerdict, lower_with}
 
 -- the bounds at the open leaves of the tree that was told last, the main tree, and one more where it is given
 abbrev pub bounds_told : Parts → Said → Option ℕ → List ℕ
@@ -42,12 +42,8 @@ verdict_told KindNoSolution problem best s lower = verdict.NoSolution
 
 -- what is answered, where matrix and times hold
 abbrev pub IsVerdictTold : Parts → Option ℕ → Said → Option ℕ → Result Verdict CheckFault → Type 0
-IsVerdictTold problem best s lower (Ok shown) =
-    TreesOfTold s.kind problem s lower × (shown ≡ verdict_told s.kind problem best s lower)
-IsVerdictTold problem best s lower (Err fault.RejectedMatrix) = ⊥
-IsVerdictTold problem best s lower (Err fault.RejectedTiming) = ⊥
-IsVerdictTold problem best s lower (Err fault.RejectedTree) = ¬ TreesOfTold s.kind problem s lower
-IsVerdictTold problem best s lower (Err fault.Memory) = ⊥
+IsVerdictTold problem best s lower answer =
+    IsVerdict (TreesOfTold s.kind problem s lower) (verdict_told s.kind problem best s lower) answer
 
 -- the rule holds with the verdict, or a part of it fails first, where the main tree has one more open leaf with
 -- the bound that may be given

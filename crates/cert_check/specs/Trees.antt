@@ -1,23 +1,15 @@
 -- What is found of the trees of a certificate, where its matrix and its times hold.
-use Rattle.std.specs.Prelude.{◌≡◌, ◌≤◌, ◌<◌, ◌*◌, ◌^◌, ⊤, ℕ, min, true, false, length, map, Option, None, Some, Result, Ok, Err, unwrap_or}
+use Rattle.std.specs.Prelude.{◌≡◌, ◌≤◌, ◌<◌, ◌*◌, ◌^◌, ⊤, ℕ, min, true, false, length, Option, None, Some, Result, Ok, Err, unwrap_or}
 use Rattle.pack_model.specs.Problem.{Parts}
 use Rattle.cert_text.specs.declared.parts.Kind.{Kind}
 use Rattle.cert_text.specs.declared.parts.Kind.TheVariants.{KindPlaced, KindTimed, KindBetween, KindBest, KindNoSolution}
 use Rattle.cert_text.specs.Parts.{CertParts}
 use Rattle.bandwidth_bound.specs.Lemmas.{values_of}
-use Rattle.bandwidth_bound.specs.Prices.{lower8_of}
 use Rattle.bandwidth_bound.specs.Rule.{TreesStand, lower_of, open_of}
 use Rattle.bandwidth_bound.specs.declared.verdict.Verdict.{Verdict}
 use Rattle.bandwidth_bound.specs.declared.verdict.Verdict.TheVariants as verdict
 use Rattle.cert_check.specs.declared.fault.CheckFault.{CheckFault}
 use Rattle.cert_check.specs.declared.fault.CheckFault.TheVariants as fault
-use Rattle.cert_check.specs.Nodes.{lowered}
-
--- the least bound at the open leaves of the main tree, if it has any
-abbrev pub least_left : Parts → CertParts → Option ℕ
-least_left problem cert =
-    lowered None
-    (map (lower8_of problem (values_of problem cert.lemmas) problem.items) (open_of problem cert.main_tree))
 
 -- 8 times the best fits 128 bits
 abbrev pub HasRoom : Option ℕ → Type 0
@@ -53,7 +45,7 @@ IsVerdict Holds shown (Ok answer) = Holds × (answer ≡ shown)
 IsVerdict Holds shown (Err fault.RejectedMatrix) = ⊥
 IsVerdict Holds shown (Err fault.RejectedTiming) = ⊥
 IsVerdict Holds shown (Err fault.RejectedTree) = ¬ Holds
-IsVerdict Holds shown (Err fault.Memory) = ⊤
+IsVerdict Holds shown (Err fault.Memory) = ⊥
 
 -- the answer where matrix and times hold
 abbrev pub IsAnswer : Parts → Option ℕ → CertParts → Result Verdict CheckFault → Type 0

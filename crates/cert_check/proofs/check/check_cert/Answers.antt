@@ -6,27 +6,25 @@ use Rattle.cert_text.specs.declared.parts.Kind.{Kind}
 use Rattle.cert_text.specs.Parts.{CertParts, LemmaOf}
 use Rattle.cert_text.specs.Trees.{Plain}
 use Rattle.cert_check.specs.declared.cert_walk.CertWalk.{CertWalk}
-use Rattle.cert_check.specs.Said.{lemmas_said, main_said, nothing_said, with_end, with_kind, with_lines}
-use Rattle.cert_check.specs.Taken.{HasOwnParts, IsWhole, Stores, StoresMore, Taken, load_in}
+use Rattle.cert_check.specs.Said.{cert_said, lemmas_said, main_said, nothing_said, with_end, with_kind, with_lines}
+use Rattle.cert_check.specs.Taken.{Stores, StoresMore, Taken, load_in}
+use Rattle.cert_check.proofs.Judged.{found_cert, holds_cert}
 use Rattle.cert_check.proofs.StoreLaws.{still, stores_then}
 use Rattle.cert_check.proofs.check.check_cert.Goals as goal
 
 -- a walk that took the parts of a certificate stores it whole
 whole : (problem : Parts) (rows : List MatrixRow) (cert : CertParts) (kind : Kind) (lines : List FrameLine)
     (lemmas : List (LemmaOf Plain)) (tree : Option Plain) (load : Option ℕ) (new now : CertWalk)
-    → Taken new problem rows [] → HasOwnParts cert → kind ≡ cert.kind → lines ≡ cert.frames
+    → Taken new problem rows [] → kind ≡ cert.kind → lines ≡ cert.frames
     → lemmas ≡ cert.lemmas → tree ≡ cert.main_tree → now.placing ≡ new.placing → load ≡ load_in new.placing
     → StoresMore problem new now
     (λ s. with_end (main_said load tree (lemmas_said lemmas (with_lines lines (with_kind kind s)))))
-    → IsWhole problem rows now cert
-whole problem rows cert kind lines lemmas tree load new now none parts k ls ms t p l step = record {
-  parts = parts;
-  stores =
-      subst (Stores problem rows now)
-      (λ i. with_end (main_said ((l ∙ ap load_in (sym p)) i) (t i)
-      (lemmas_said (ms i) (with_lines (ls i) (with_kind (k i) (nothing_said problem))))))
-      (step.stores rows (nothing_said problem) none);
-}
+    → Stores problem rows now (cert_said problem (load_in now.placing) cert)
+whole problem rows cert kind lines lemmas tree load new now none k ls ms t p l step =
+    subst (Stores problem rows now)
+    (λ i. with_end (main_said ((l ∙ ap load_in (sym p)) i) (t i)
+    (lemmas_said (ms i) (with_lines (ls i) (with_kind (k i) (nothing_said problem))))))
+    (step.stores rows (nothing_said problem) none)
 
 pub take_lines-requires : goal.take_lines-requires
 take_lines-requires c =
@@ -56,17 +54,23 @@ returns-clause-found c =
     let kind = c.take_kind.ensures c.args.problem.now in
     let three = stores_then (stores_then kind c.take_lines.ensures) c.take_lemmas.ensures in
     let all = stores_then (stores_then three c.take_main_tree.ensures) (c.take_finish.ensures c.args.problem.now) in
-    c.judge.ensures.found c.args.problem.now c.args.matrix.now c.args.cert.now
-    (whole c.args.problem.now c.args.matrix.now c.args.cert.now c.kind.result c.frames.result.now _ _ _
-    c.in_ok-walk.walk c.take_finish.new.self c.in_ok-walk.ensures c.kind.ensures.has_parts c.kind.ensures.value
-    c.frames.ensures c.lemmas.ensures c.main_tree.ensures all.placing (ap load_in three.placing) all)
+    let stores =
+    whole c.args.problem.now c.args.matrix.now c.args.cert.now c.kind.result c.frames.result.now _ _ _
+    c.in_ok-walk.walk c.take_finish.new.self c.in_ok-walk.ensures c.kind.ensures.value
+    c.frames.ensures c.lemmas.ensures c.main_tree.ensures all.placing (ap load_in three.placing) all in
+    found_cert c.args.problem.now c.args.matrix.now c.take_finish.new.self.has_rows
+    c.take_finish.new.self.placing c.args.cert.now stores.knows c.kind.ensures.has_parts c.judge.result
+    (c.judge.ensures c.args.problem.now c.args.matrix.now
+    (cert_said c.args.problem.now (load_in c.take_finish.new.self.placing) c.args.cert.now) stores)
 
 pub returns-clause-holds : goal.returns-clause-holds
 returns-clause-holds c =
     let kind = c.take_kind.ensures c.args.problem.now in
     let three = stores_then (stores_then kind c.take_lines.ensures) c.take_lemmas.ensures in
     let all = stores_then (stores_then three c.take_main_tree.ensures) (c.take_finish.ensures c.args.problem.now) in
-    c.judge.ensures.holds c.args.problem.now c.args.matrix.now c.args.cert.now
-    (whole c.args.problem.now c.args.matrix.now c.args.cert.now c.kind.result c.frames.result.now _ _ _
-    c.in_ok-walk.walk c.take_finish.new.self c.in_ok-walk.ensures c.kind.ensures.has_parts c.kind.ensures.value
-    c.frames.ensures c.lemmas.ensures c.main_tree.ensures all.placing (ap load_in three.placing) all)
+    let stores =
+    whole c.args.problem.now c.args.matrix.now c.args.cert.now c.kind.result c.frames.result.now _ _ _
+    c.in_ok-walk.walk c.take_finish.new.self c.in_ok-walk.ensures c.kind.ensures.value
+    c.frames.ensures c.lemmas.ensures c.main_tree.ensures all.placing (ap load_in three.placing) all in
+    holds_cert c.args.problem.now c.args.matrix.now c.take_finish.new.self.has_rows
+    c.take_finish.new.self.placing c.args.cert.now stores.knows c.judge.result (returns-clause-found c)

@@ -8,10 +8,7 @@ use Rattle.cert_check.proofs.StoreLaws.{begun_stored, none_falls}
 use Rattle.cert_check.proofs.cert_walk.CertWalk.take_main.Goals as goal
 
 pub in_eighths-requires : goal.in_eighths-requires
-in_eighths-requires c =
-    subst HasRoom (sym c.best.ensures)
-    (has_room c.args.problem.now c.requires.0 c.args.self.now.placing c.requires.2.knows.stands
-    c.requires.2.knows.placed)
+in_eighths-requires c = c.best.ensures.room c.args.problem.now c.requires
 
 pub returns : goal.returns
 returns c = record {
@@ -23,7 +20,7 @@ returns c = record {
       c.args.self.now.last c.begin.ensures.walks c.begin.ensures.begins
       (c.begin.ensures.aim ∙ (λ i. record {
         range = None;
-        value = (c.in_eighths.ensures ∙ ap eighths c.best.ensures) i;
+        value = (c.in_eighths.ensures ∙ ap eighths c.best.ensures.value) i;
         may_leave = (c.may_leave.ensures ∙ ap may_leave_of stores.kind) i;
       }))
       (c.begin.ensures.values ∙ (stores.in_tree stay.0).kept) (stores.last stay.0) (λ i. s.values);

@@ -1,29 +1,37 @@
-use Rattle.std.proofs.Common.{List, subst}
-use Rattle.pack_model.specs.Problem.{Parts}
-use Rattle.matrix_rows.specs.declared.matrix.MatrixRow.{MatrixRow}
+use Rattle.std.proofs.Common.{None, map, subst}
 use Rattle.cert_text.specs.CertEvents.{cert_events}
-use Rattle.cert_text.specs.Parts.{CertOf, unmark_cert}
-use Rattle.cert_text.specs.Trees.{Marked}
-use Rattle.cert_check.specs.declared.cert_walk.CertWalk.{CertWalk}
-use Rattle.cert_check.specs.Taken.{HasOwnParts, IsWhole, Stores, Taken, load_in}
+use Rattle.cert_text.specs.Parts.{unmark_cert}
+use Rattle.cert_check.specs.Entries.{as_event}
+use Rattle.cert_check.specs.Said.{said_by}
+use Rattle.cert_check.specs.Taken.{load_in}
+use Rattle.cert_check.specs.Told.{IsFoundTold}
+use Rattle.cert_check.proofs.Judged.{found_cert, holds_cert}
 use Rattle.cert_check.proofs.SaidLaws.{said_cert}
 use Rattle.cert_check.proofs.cert_walk.CertWalk.verdict.Goals as goal
 
--- a walk that took the events of a certificate stores it whole
-whole : (problem : Parts) (rows : List MatrixRow) (walk : CertWalk) (marked : CertOf Marked)
-    → HasOwnParts (unmark_cert marked) → Taken walk problem rows (cert_events marked)
-    → IsWhole problem rows walk (unmark_cert marked)
-whole problem rows walk marked parts taken = record {
-  parts = parts;
-  stores = subst (Stores problem rows walk) (said_cert problem (load_in walk.placing) marked) taken;
-}
-
 pub returns-clause-found : goal.returns-clause-found
 returns-clause-found c = λ rows marked parts taken.
-    c.judge.ensures.found c.args.problem.now rows (unmark_cert marked)
-    (whole c.args.problem.now rows c.args.self.now marked parts taken)
+    let best = load_in c.args.self.now.placing in
+    found_cert c.args.problem.now rows c.args.self.now.has_rows c.args.self.now.placing (unmark_cert marked)
+    taken.knows parts c.judge.result
+    (subst (λ s. IsFoundTold c.args.problem.now rows best s None c.judge.result)
+    (said_cert c.args.problem.now best marked)
+    (c.judge.ensures c.args.problem.now rows
+    (said_by c.args.problem.now best (map as_event (cert_events marked))) taken))
 
 pub returns-clause-holds : goal.returns-clause-holds
 returns-clause-holds c = λ rows marked parts taken.
-    c.judge.ensures.holds c.args.problem.now rows (unmark_cert marked)
-    (whole c.args.problem.now rows c.args.self.now marked parts taken)
+    holds_cert c.args.problem.now rows c.args.self.now.has_rows c.args.self.now.placing (unmark_cert marked)
+    taken.knows c.judge.result (returns-clause-found c rows marked parts taken)
+
+pub returns-clause-told : goal.returns-clause-told
+returns-clause-told c = λ rows entries taken.
+    c.judge.ensures c.args.problem.now rows
+    (said_by c.args.problem.now (load_in c.args.self.now.placing) entries) taken
+
+pub returns-clause-known : goal.returns-clause-known
+returns-clause-known c = λ e.
+    subst (IsFoundTold c.args.problem.now c.requires.0 (load_in c.args.self.now.placing)
+    (said_by c.args.problem.now (load_in c.args.self.now.placing) c.requires.1) None) e
+    (c.judge.ensures c.args.problem.now c.requires.0
+    (said_by c.args.problem.now (load_in c.args.self.now.placing) c.requires.1) c.requires.2)

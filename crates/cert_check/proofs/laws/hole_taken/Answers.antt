@@ -1,0 +1,5 @@
+use Rattle.cert_check.proofs.HoleSteps as laws
+use Rattle.cert_check.proofs.laws.hole_taken.Goals as goal
+
+pub returns : goal.returns
+returns c = laws.hole_taken
