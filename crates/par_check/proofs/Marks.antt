@@ -275,3 +275,63 @@ goes_on c front rest nodes stands is =
         let lack = open_lack nodes zero in
         absurd (none_lacking all.0 lack.0
         (sym (one_less f.tree f.depth zero all.0 f.stands) ∙ ap (lacking (suc zero)) (sym all.1) ∙ lack.1))
+
+-- ---- the end of a certificate
+
+-- the last of some events, and of one before them
+abbrev last_of : Event → List Event → Event
+last_of e [] = e
+last_of e (x ∷ xs) = last_of x xs
+
+last_append : (e : Event) (xs ys : List Event) → last_of e (xs ++ ys) ≡ last_of (last_of e xs) ys
+last_append e [] ys = refl
+last_append e (x ∷ xs) ys = last_append x xs ys
+
+-- a certificate ends with its last event
+finishes : (c : CertOf Marked) (e : Event) → last_of e (cert_events c) ≡ event.Finish
+finishes c e =
+    let end = main_events c.main_tree ++ event.Finish ∷ [] in
+    let head : Event = event.Head c.kind in
+    last_append head (map event.FrameOf c.frames) (flat_map lemma_events c.lemmas ++ end)
+    ∙ last_append (last_of head (map event.FrameOf c.frames)) (flat_map lemma_events c.lemmas) end
+    ∙ last_append (last_of (last_of head (map event.FrameOf c.frames)) (flat_map lemma_events c.lemmas))
+    (main_events c.main_tree) (event.Finish ∷ [])
+
+mutual
+  unfolding tree_events trees_events
+
+  bare_of_tree : (t : Plain) → AllByRecursion IsOfTree (tree_events (bare t))
+  bare_of_tree (inner ts) = (tt, bare_of_trees ts)
+  bare_of_tree bound = (tt, tt)
+  bare_of_tree left = (tt, tt)
+  bare_of_tree (fail named) = (tt, tt)
+
+  bare_of_trees : (ts : Plains) → AllByRecursion IsOfTree (trees_events (bare_all ts))
+  bare_of_trees none = tt
+  bare_of_trees (more t ts) =
+      of_both (tree_events (bare t)) (trees_events (bare_all ts)) (bare_of_tree t) (bare_of_trees ts)
+
+subtrees_of_tree : (ts : List Tree) → AllByRecursion IsOfTree (flat_map (λ t. tree_events (bare_of t)) ts)
+subtrees_of_tree [] = tt
+subtrees_of_tree (t ∷ ts) =
+    of_both (tree_events (bare_of t)) (flat_map (λ t. tree_events (bare_of t)) ts) (bare_of_tree (plain_of t))
+    (subtrees_of_tree ts)
+
+open_of_tree : (nodes : List OpenNode) → AllByRecursion IsOfTree (open_events nodes)
+open_of_tree [] = tt
+open_of_tree (node ∷ nodes) =
+    of_both (node_events node) (open_events nodes) (tt, subtrees_of_tree node.subtrees.items) (open_of_tree nodes)
+
+-- events of a tree after one that isn't the end don't end with it
+not_the_end : (e : Event) (es : List Event) → ¬ (e ≡ event.Finish) → AllByRecursion IsOfTree es
+    → ¬ (last_of e es ≡ event.Finish)
+not_the_end e [] other all is = other is
+not_the_end e (x ∷ es) other all is = not_the_end x es (λ same. subst IsOfTree same all.0) all.1 is
+
+-- a certificate doesn't end where a marked tree isn't whole
+pub open_goes_on : (c : CertOf Marked) (front : List Event) (nodes : List OpenNode)
+    → ¬ (cert_events c ≡ front ++ event.ShardMark ∷ open_events nodes)
+open_goes_on c front nodes is =
+    not_the_end event.ShardMark (open_events nodes) (λ e. cc) (open_of_tree nodes)
+    (sym (last_append event.ShardMark front (event.ShardMark ∷ open_events nodes))
+    ∙ ap (last_of event.ShardMark) (sym is) ∙ finishes c event.ShardMark)

@@ -1,5 +1,5 @@
 //! The walk over the events of a certificate whose marked trees are judged apart.
-ghost use Rattle.std.specs.Prelude.{◌≡◌, ◌≤◌, ◌∷◌, ◌++◌, [], List, None, Some, false, IfOk, IsErrOf, OnOk};
+ghost use Rattle.std.specs.Prelude.{◌≡◌, ◌≤◌, ◌∷◌, ◌||◌, [], List, None, false, IfOk, OnOk};
 ghost use Rattle.matrix_rows.specs.declared.matrix.MatrixRow.{MatrixRow};
 ghost use Rattle.cert_text.specs.declared.event.Event.{Event};
 ghost use Rattle.cert_text.specs.CertEvents.{cert_events, tree_events};
@@ -98,16 +98,11 @@ impl ShardWalk {
         ensures { TakesOn problem.now self.old self.new (event.now ∷ []) }
     {
         self.walk.take(problem, event);
-        match event {
-            Event::Main => true,
-            Event::ShardMark => {
-                if !self.has_failed() {
-                    self.gathering = Some(Gathering::new(self.alloc));
-                }
-                false
-            }
-            _ => false,
+        if matches!(event, Event::ShardMark) && !self.has_failed() {
+            self.gathering = Some(Gathering::new(self.alloc));
+            return false;
         }
+        matches!(event, Event::Main)
     }
 
     /// Takes an event of a shard, of which there is a part. True where it is the last one of a batch.
@@ -118,7 +113,8 @@ impl ShardWalk {
         part: Gathering,
         event: Event,
     ) -> Result<bool, Memory>
-        requires { MayTake problem.now (with_part self.old part) (event ∷ []) }
+        requires taken { MayTake problem.now (with_part self.old part) (event ∷ []) }
+        requires none { self.old.gathering ≡ None }
         ensures { OnOk result (TakesOn problem.now (with_part self.old part) self.new (event ∷ [])) }
     {
         match part.take(event)? {
@@ -177,11 +173,16 @@ impl ShardWalk {
         }
         let goal = goal_of(self.alloc, problem, &self.walk)?;
         match check_shards(rt, self.alloc, problem, &goal, &batch, workers, gate) {
-            Ok(joined) => self.lower = lesser(self.lower, joined.lower),
-            Err(CheckFault::Memory) => return Err(Memory),
-            Err(_) => self.denied = true,
+            Ok(joined) => {
+                self.lower = lesser(self.lower, joined.lower);
+                Ok(())
+            }
+            Err(CheckFault::Memory) => Err(Memory),
+            Err(_) => {
+                self.denied = true;
+                Ok(())
+            }
         }
-        Ok(())
     }
 
     /// The verdict of the certificate whose events were taken, where all shards were judged.
