@@ -430,8 +430,9 @@ impl CertWalk {
     /// What is found of what was told, where the main tree has one more open leaf of the bound that may be given.
     pub(crate) fn judge(&self, lower: Option<u128>) -> Result<Verdict, CheckFault>
         requires { (problem : Parts) × HasStored problem self.now }
-        ensures { (problem : Parts) (rows : List MatrixRow) (s : Said) → Stores problem rows self.now s
+        ensures told { (problem : Parts) (rows : List MatrixRow) (s : Said) → Stores problem rows self.now s
             → IsFoundTold problem rows (load_in self.now.placing) s lower result }
+        ensures known { ¬ (IsErrOf result CheckFault.Memory) }
     {
         if !self.matrix_stands() {
             return Err(CheckFault::RejectedMatrix);
@@ -471,7 +472,11 @@ impl CertWalk {
     /// # Errors
     ///
     /// The first part of the rule that fails: `RejectedMatrix`, `RejectedTiming` or `RejectedTree`.
-    pub fn verdict_joined(&self, problem: &Problem, lower: Option<u128>) -> Result<Verdict, CheckFault>
+    pub fn verdict_joined(
+        &self,
+        problem: &Problem,
+        lower: Option<u128>,
+    ) -> Result<Verdict, CheckFault>
         requires { HasTaken self.now problem.now }
         ensures told { (rows : List MatrixRow) (entries : List Entry) → Taken self.now problem.now rows entries
             → IsFoundOf problem.now rows self.now entries lower result }

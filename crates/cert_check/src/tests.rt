@@ -1,9 +1,10 @@
 //! Certificates of small problems.
 ghost use Rattle.pack_model.specs.Signal.{SignalStands};
+ghost use Rattle.cert_check.specs.Taken.{HasTaken};
 
-use crate::{CheckFault, check_cert};
+use crate::{CertWalk, CheckFault, check_cert};
 use bandwidth_bound::Verdict;
-use cert_text::read_cert;
+use cert_text::{Event, Kind, read_cert};
 use matrix_text::read_matrix;
 use pack_model::{Name, Network, Problem, Signal, problem_of};
 use std::alloc::Global;
@@ -105,4 +106,100 @@ fn lemmas_bound_what_senders_load(rt: HostRuntime) {
     let more = b"canpack certificate 1\nkind open\nlemma 0 56001\ni 1\nb\nmain\no\nend\n";
     let answer = found(&rt, rt.alloc(), &problem, NO_ROWS, more);
     assert_eq!(rt; answer, Err(CheckFault::RejectedTree));
+}
+
+/// What a walk over a problem and the text of a matrix took of some events.
+fn walk_of(
+    rt: &impl Abort,
+    alloc: Global,
+    problem: &Problem,
+    matrix: &[u8],
+    events: &[Event],
+) -> CertWalk
+    ensures { HasTaken result problem.now }
+{
+    let matrix = read_matrix(alloc, matrix).expect(rt, "a matrix");
+    let mut walk = CertWalk::new(alloc, problem, &matrix).expect(rt, "memory");
+    for event in events {
+        walk.take(problem, event);
+    }
+    walk
+}
+
+/// The labels of the place of a walk that hasn't failed.
+fn place_is(rt: &impl Abort, walk: &CertWalk, problem: &Problem, labels: &[u32]) -> bool
+    requires { HasTaken walk.now problem.now }
+{
+    assert!(rt; !walk.failed());
+    walk.path() == labels
+}
+
+/// Two signals of one sender are put one after the other, the second into the frame of the first or into another.
+/// Holes may stand at both places, and no third one.
+#[test]
+fn a_hole_is_a_tree_at_its_place(rt: HostRuntime) {
+    let problem = two_signals(&rt, rt.alloc(), b"ECU1");
+    let events = [
+        Event::Head(Kind::KindNoSolution),
+        Event::Main,
+        Event::Node(1),
+        Event::Node(2),
+    ];
+    let mut walk = walk_of(&rt, rt.alloc(), &problem, NO_ROWS, &events);
+    assert_eq!(rt; walk.kind(), Kind::KindNoSolution);
+    assert_eq!(rt; walk.best(), None);
+    assert_eq!(rt; walk.lemma(), None);
+    assert!(rt; place_is(&rt, &walk, &problem, &[0, 0]));
+    walk.pass_over(&problem);
+    assert!(rt; place_is(&rt, &walk, &problem, &[0, 1]));
+    walk.pass_over(&problem);
+    assert_eq!(rt; walk.verdict(&problem), Ok(Verdict::NoSolution));
+    walk.pass_over(&problem);
+    assert!(rt; walk.failed());
+    assert_eq!(rt;
+        walk.verdict_joined(&problem, None),
+        Err(CheckFault::RejectedTree)
+    );
+}
+
+/// The line of the lemma of a sender whose signal alone is a frame of 7000 ticks: 56000 eighths.
+fn lemma_of(sender: u32) -> Event {
+    Event::LemmaOf {
+        sender,
+        value: 56_000,
+    }
+}
+
+/// The trees of two lemmas are passed over. With their values the bound where nothing is put is twice 56000; that
+/// of an open leaf that was passed over may be less.
+#[test]
+fn a_bound_comes_back(rt: HostRuntime) {
+    let problem = two_signals(&rt, rt.alloc(), b"ECU2");
+    let events = [Event::Head(Kind::KindBetween), lemma_of(0)];
+    let mut walk = walk_of(&rt, rt.alloc(), &problem, NO_ROWS, &events);
+    assert_eq!(rt; walk.lemma(), Some(0));
+    assert_eq!(rt; walk.lemma_values(), [56_000, 0].as_slice());
+    walk.pass_over(&problem);
+    walk.take(&problem, &lemma_of(1));
+    walk.pass_over(&problem);
+    walk.take(&problem, &Event::Main);
+    walk.take(&problem, &Event::OpenLeaf);
+    let less = Verdict::Between {
+        best: None,
+        lower: 111_999,
+    };
+    assert_eq!(rt; walk.verdict_joined(&problem, Some(111_999)), Ok(less));
+    let own = Verdict::Between {
+        best: None,
+        lower: 112_000,
+    };
+    assert_eq!(rt; walk.verdict_joined(&problem, Some(112_001)), Ok(own));
+}
+
+/// The load of a placed matrix is known from the start.
+#[test]
+fn a_placed_matrix_has_a_load(rt: HostRuntime) {
+    let problem = two_signals(&rt, rt.alloc(), b"ECU1");
+    let walk = walk_of(&rt, rt.alloc(), &problem, ONE_FRAME, &[]);
+    assert_eq!(rt; walk.best(), Some(7400));
 }

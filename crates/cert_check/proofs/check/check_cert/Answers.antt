@@ -49,8 +49,8 @@ judge-requires c = (
       (c.args.matrix.now, nothing_said c.args.problem.now, c.in_ok-walk.ensures))))),
 )
 
-pub returns-clause-found : goal.returns-clause-found
-returns-clause-found c =
+pub returns : goal.returns
+returns c =
     let kind = c.take_kind.ensures c.args.problem.now in
     let three = stores_then (stores_then kind c.take_lines.ensures) c.take_lemmas.ensures in
     let all = stores_then (stores_then three c.take_main_tree.ensures) (c.take_finish.ensures c.args.problem.now) in
@@ -58,19 +58,12 @@ returns-clause-found c =
     whole c.args.problem.now c.args.matrix.now c.args.cert.now c.kind.result c.frames.result.now _ _ _
     c.in_ok-walk.walk c.take_finish.new.self c.in_ok-walk.ensures c.kind.ensures.value
     c.frames.ensures c.lemmas.ensures c.main_tree.ensures all.placing (ap load_in three.placing) all in
+    let found =
     found_cert c.args.problem.now c.args.matrix.now c.take_finish.new.self.has_rows
     c.take_finish.new.self.placing c.args.cert.now stores.knows c.kind.ensures.has_parts c.judge.result
-    (c.judge.ensures c.args.problem.now c.args.matrix.now
-    (cert_said c.args.problem.now (load_in c.take_finish.new.self.placing) c.args.cert.now) stores)
-
-pub returns-clause-holds : goal.returns-clause-holds
-returns-clause-holds c =
-    let kind = c.take_kind.ensures c.args.problem.now in
-    let three = stores_then (stores_then kind c.take_lines.ensures) c.take_lemmas.ensures in
-    let all = stores_then (stores_then three c.take_main_tree.ensures) (c.take_finish.ensures c.args.problem.now) in
-    let stores =
-    whole c.args.problem.now c.args.matrix.now c.args.cert.now c.kind.result c.frames.result.now _ _ _
-    c.in_ok-walk.walk c.take_finish.new.self c.in_ok-walk.ensures c.kind.ensures.value
-    c.frames.ensures c.lemmas.ensures c.main_tree.ensures all.placing (ap load_in three.placing) all in
-    holds_cert c.args.problem.now c.args.matrix.now c.take_finish.new.self.has_rows
-    c.take_finish.new.self.placing c.args.cert.now stores.knows c.judge.result (returns-clause-found c)
+    (c.judge.ensures.told c.args.problem.now c.args.matrix.now
+    (cert_said c.args.problem.now (load_in c.take_finish.new.self.placing) c.args.cert.now) stores) in record {
+      found = found;
+      holds = holds_cert c.args.problem.now c.args.matrix.now c.take_finish.new.self.has_rows
+          c.take_finish.new.self.placing c.args.cert.now stores.knows c.judge.result found;
+    }

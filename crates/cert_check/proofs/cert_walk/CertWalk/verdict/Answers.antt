@@ -16,7 +16,7 @@ returns-clause-found c = λ rows marked parts taken.
     taken.knows parts c.judge.result
     (subst (λ s. IsFoundTold c.args.problem.now rows best s None c.judge.result)
     (said_cert c.args.problem.now best marked)
-    (c.judge.ensures c.args.problem.now rows
+    (c.judge.ensures.told c.args.problem.now rows
     (said_by c.args.problem.now best (map as_event (cert_events marked))) taken))
 
 pub returns-clause-holds : goal.returns-clause-holds
@@ -26,12 +26,5 @@ returns-clause-holds c = λ rows marked parts taken.
 
 pub returns-clause-told : goal.returns-clause-told
 returns-clause-told c = λ rows entries taken.
-    c.judge.ensures c.args.problem.now rows
+    c.judge.ensures.told c.args.problem.now rows
     (said_by c.args.problem.now (load_in c.args.self.now.placing) entries) taken
-
-pub returns-clause-known : goal.returns-clause-known
-returns-clause-known c = λ e.
-    subst (IsFoundTold c.args.problem.now c.requires.0 (load_in c.args.self.now.placing)
-    (said_by c.args.problem.now (load_in c.args.self.now.placing) c.requires.1) None) e
-    (c.judge.ensures c.args.problem.now c.requires.0
-    (said_by c.args.problem.now (load_in c.args.self.now.placing) c.requires.1) c.requires.2)
