@@ -1,9 +1,11 @@
 -- What a walk with shards has taken, step by step.
-use Rattle.std.specs.Prelude.{◌||◌, IfSome}
+use Rattle.std.specs.Prelude.{◌||◌, IfSome, OnOk}
 use Rattle.std.proofs.Common.{◌≡◌, ◌<◌, ℕ, Bool, true, false, List, [], ◌∷◌, ◌++◌, length, map, All, Option, None, Some, Ok, Err, Result, refl, sym, ap, subst, ◌∙◌, append_assoc, append-nil, true≢false, Vec, Global}
 use Rattle.std.specs.List.{flat_map}
 use Rattle.std.proofs.lemmas.List.Elements.{All-nil}
 use Rattle.pack_model.specs.Problem.{Parts}
+use Rattle.grouping_tree.specs.Grouped.{items_in}
+use Rattle.grouping_tree.specs.Partial.{IsPartial}
 use Rattle.matrix_rows.specs.declared.matrix.MatrixRow.{MatrixRow}
 use Rattle.cert_text.specs.declared.event.Event.{Event}
 use Rattle.cert_text.specs.declared.event.Event.TheVariants as event
@@ -36,6 +38,17 @@ use Rattle.par_check.specs.Shards.{AreFound, IsShard, ShardStands, lesser}
 use Rattle.par_check.specs.ShardWalks.{IsBegun, KnowsHoles, ShardsTaken, TakesOn, goal_by, of_hole, of_shard, part_events, with_part}
 use Rattle.par_check.proofs.BatchLaws.{batch_falls, batch_stands, shard_more}
 use Rattle.par_check.proofs.Marks.{goes_on, open_goes_on}
+
+-- a shard at a place where a walk was
+pub shard_legal : (problem : Parts) (shard : Shard) (range : Option ℕ) (p : List ℕ) → shard.lemma ≡ range
+    → shard.path ≡ p → IfSome shard.lemma (λ sender. sender < length problem.senders)
+    → IsPartial (items_in problem.items range) p → IsShard problem shard
+shard_legal problem shard range p lemma_is path_is sender legal = record {
+  sender = sender;
+  path =
+      subst (IsPartial (items_in problem.items shard.lemma)) (sym path_is)
+      (subst (λ r. IsPartial (items_in problem.items r) p) (sym lemma_is) legal);
+}
 
 -- ---- entries
 
@@ -367,3 +380,18 @@ module _ (problem : Parts) (rows : List MatrixRow) where
 
     pub denied_so : walk.denied ≡ true → IsFoundHolding problem rows (unmark_cert marked) (denied answer)
     denied_so d = full.some_falls (s.denies d)
+
+    -- where the walk refuses
+    pub refused : (why : CheckFault) → answer ≡ Err why → IsFoundHolding problem rows (unmark_cert marked) (Err why)
+    refused why is = by walk.denied refl
+      where
+        by : (b : Bool) → walk.denied ≡ b → IsFoundHolding problem rows (unmark_cert marked) (Err why)
+        by true d = subst (IsFoundHolding problem rows (unmark_cert marked)) (ap denied is) (denied_so d)
+        by false calm = subst (IsFoundHolding problem rows (unmark_cert marked)) is (shown calm)
+
+-- ---- the calls
+
+-- what follows where a call answers Ok
+pub where_ok : {T E A B : Type 0} (result : Result T E) → (A → B) → OnOk result A → OnOk result B
+where_ok (Ok x) then is = then is
+where_ok (Err e) then is = tt

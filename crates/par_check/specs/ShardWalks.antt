@@ -72,6 +72,10 @@ TakesOn problem before after more = (rows : List MatrixRow) (events : List Event
     → ShardsTaken problem rows before events → BeginsEvents (events ++ more)
     → ShardsTaken problem rows after (events ++ more)
 
+-- it took these events, which begin a certificate
+abbrev pub ShardsBegun : Parts → List MatrixRow → ShardWalk → List Event → Type 0
+ShardsBegun problem rows walk events = ShardsTaken problem rows walk events × BeginsEvents events
+
 -- it took some events, which begin a certificate
 abbrev pub HasShards : Parts → ShardWalk → Type 0
 HasShards problem walk = (rows : List MatrixRow) × (events : List Event)

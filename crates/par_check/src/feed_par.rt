@@ -58,11 +58,8 @@ pub fn check_feed_par<R: Threads + Sync, F: Folder, G: Gate + Sync>(
     let mut feed = CertFeed::new(alloc)?;
     while !feed.ended() {
         let event = feed.next(folder, name)?;
-        if walk.take(problem, workers, event)? {
-            walk.judge(rt, problem, workers, gate)?;
-        }
+        walk.go_on(rt, problem, workers, gate, event)?;
     }
-    walk.judge(rt, problem, workers, gate)?;
-    let shown = walk.verdict(problem)?;
+    let shown = walk.finish(rt, problem, workers, gate)?;
     Ok(shown)
 }

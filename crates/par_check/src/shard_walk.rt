@@ -9,7 +9,7 @@ ghost use Rattle.cert_check.specs.Joined.{IsFoundHolding};
 ghost use Rattle.cert_check.specs.Taken.{HasOwnParts, HasStored, falls};
 ghost use Rattle.par_check.specs.Gathered.{bare_of};
 ghost use Rattle.par_check.specs.Shards.{IsGoal};
-ghost use Rattle.par_check.specs.ShardWalks.{HasShards, MayTake, ShardsTaken, StaysTaken, TakesOn, goal_by, with_part};
+ghost use Rattle.par_check.specs.ShardWalks.{HasShards, MayTake, ShardsBegun, ShardsTaken, StaysTaken, TakesOn, goal_by, with_part};
 
 use crate::checking::check_shards;
 use crate::gathering::{Gathered, Gathering};
@@ -81,7 +81,7 @@ impl ShardWalk {
     }
 
     /// Takes the next event. True where the shards are to be judged now.
-    pub fn take(&mut self, problem: &Problem, workers: u32, event: Event) -> Result<bool, Memory>
+    fn take(&mut self, problem: &Problem, workers: u32, event: Event) -> Result<bool, Memory>
         requires { MayTake problem.now self.old (event ∷ []) }
         ensures { OnOk result (TakesOn problem.now self.old self.new (event ∷ [])) }
     {
@@ -154,7 +154,7 @@ impl ShardWalk {
     }
 
     /// Judges the shards that were gathered.
-    pub fn judge<R: Threads + Sync, G: Gate + Sync>(
+    fn judge<R: Threads + Sync, G: Gate + Sync>(
         &mut self,
         rt: &R,
         problem: &Problem,
@@ -185,12 +185,32 @@ impl ShardWalk {
         }
     }
 
-    /// The verdict of the certificate whose events were taken, where all shards were judged.
+    /// Takes the next event, and judges the shards where that is the last one of a batch.
+    pub fn go_on<R: Threads + Sync, G: Gate + Sync>(
+        &mut self,
+        rt: &R,
+        problem: &Problem,
+        workers: u32,
+        gate: &G,
+        event: Event,
+    ) -> Result<(), Memory>
+        requires some { 1 ≤ workers }
+        requires few { workers ≤ 64 }
+        requires taken { MayTake problem.now self.old (event ∷ []) }
+        ensures { OnOk result (TakesOn problem.now self.old self.new (event ∷ [])) }
+    {
+        if !self.take(problem, workers, event)? {
+            return Ok(());
+        }
+        self.judge(rt, problem, workers, gate)
+    }
+
+    /// The verdict where all shards were judged.
     ///
     /// # Errors
     ///
     /// The first part of the rule that fails: `RejectedMatrix`, `RejectedTiming` or `RejectedTree`.
-    pub fn verdict(&self, problem: &Problem) -> Result<Verdict, CheckFault>
+    fn verdict(&self, problem: &Problem) -> Result<Verdict, CheckFault>
         requires taken { HasShards problem.now self.now }
         requires judged { self.now.batch.items ≡ [] }
         ensures found { (rows : List MatrixRow) (marked : CertOf Marked) → HasOwnParts (unmark_cert marked)
@@ -207,5 +227,29 @@ impl ShardWalk {
             }
             Err(fault) => Err(fault),
         }
+    }
+
+    /// The verdict of the certificate whose events were taken.
+    ///
+    /// # Errors
+    ///
+    /// The first part of the rule that fails: `RejectedMatrix`, `RejectedTiming` or `RejectedTree`; `Memory` where
+    /// memory runs out.
+    pub fn finish<R: Threads + Sync, G: Gate + Sync>(
+        &mut self,
+        rt: &R,
+        problem: &Problem,
+        workers: u32,
+        gate: &G,
+    ) -> Result<Verdict, CheckFault>
+        requires some { 1 ≤ workers }
+        requires few { workers ≤ 64 }
+        requires taken { HasShards problem.now self.old }
+        ensures { (rows : List MatrixRow) (marked : CertOf Marked) → HasOwnParts (unmark_cert marked)
+            → ShardsBegun problem.now rows self.old (cert_events marked)
+            → IsFoundHolding problem.now rows (unmark_cert marked) result }
+    {
+        self.judge(rt, problem, workers, gate)?;
+        self.verdict(problem)
     }
 }
