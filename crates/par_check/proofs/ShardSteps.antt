@@ -31,6 +31,7 @@ use Rattle.cert_check.proofs.JoinedLaws.{found_in_full}
 use Rattle.cert_check.proofs.StoreLaws.{none_falls, tree_stands}
 use Rattle.cert_check.proofs.SubtreeLaws.{load_same}
 use Rattle.par_check.specs.declared.gathering.Gathering.{Gathering}
+use Rattle.par_check.specs.declared.shard.Goal.{Goal}
 use Rattle.par_check.specs.declared.shard.Shard.{Shard}
 use Rattle.par_check.specs.declared.shard_walk.ShardWalk.{ShardWalk}
 use Rattle.par_check.specs.Gathered.{IsOfTree, bare, bare_all, bare_of, open_events}
@@ -395,3 +396,16 @@ module _ (problem : Parts) (rows : List MatrixRow) where
 pub where_ok : {T E A B : Type 0} (result : Result T E) → (A → B) → OnOk result A → OnOk result B
 where_ok (Ok x) then is = then is
 where_ok (Err e) then is = tt
+
+-- neither of two is true
+pub neither : (a b : Bool) → (a || b) ≡ false → (a ≡ false) × (b ≡ false)
+neither true b e = absurd (true≢false e)
+neither false b e = (refl, e)
+
+-- what is found of shards is found of the same shards
+pub found_same : (problem : Parts) (goal other : Goal) (shards again : List Shard)
+    (answer : Result (Option ℕ) CheckFault) → goal ≡ other → shards ≡ again → AreFound problem goal shards answer
+    → AreFound problem other again answer
+found_same problem goal other shards again answer goal_is shards_are found =
+    subst (λ ss. AreFound problem other ss answer) shards_are
+    (subst (λ g. AreFound problem g shards answer) goal_is found)

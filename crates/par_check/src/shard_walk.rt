@@ -177,11 +177,12 @@ impl ShardWalk {
                 self.lower = lesser(self.lower, joined.lower);
                 Ok(())
             }
-            Err(CheckFault::Memory) => Err(Memory),
-            Err(_) => {
+            Err(CheckFault::RejectedTree) => {
                 self.denied = true;
                 Ok(())
             }
+            // No other fault comes but want of memory.
+            Err(_) => Err(Memory),
         }
     }
 

@@ -16,7 +16,7 @@ loop-feed-init g c =
 -- ---- one event more
 
 pub go_on-requires-clause-taken : goal.go_on-requires-clause-taken
-go_on-requires-clause-taken g c =
+go_on-requires-clause-taken g c = λ lifetimes outlive.
     let s = c.loop-feed.invariant in
     let x = c.in_ok-event.ensures.answer s.bytes s.events s.given in
     (c.args.matrix.now, s.events, s.taken.0, x.answer.begins)
@@ -29,7 +29,7 @@ loop-feed-preserved g c =
     (λ events took begins. (c.in_ok-go_on.ensures c.args.matrix.now events took.0 begins, begins))
 
 pub finish-requires-clause-taken : goal.finish-requires-clause-taken
-finish-requires-clause-taken g c =
+finish-requires-clause-taken g c = λ lifetimes outlive.
     let s = c.loop-feed.invariant in (c.args.matrix.now, s.events, s.taken.0, s.taken.1)
 
 -- ---- the feed refuses

@@ -6,7 +6,7 @@ use Rattle.par_check.proofs.shard_walk.ShardWalk.keep.Goals as goal
 
 pub path-requires-clause-stored : goal.path-requires-clause-stored
 path-requires-clause-stored c =
-    let t = c.requires.taken in (c.args.problem.now, t.0, _, t.2.taken)
+    let t = c.requires.taken in (c.args.problem.now, (t.0, _, t.2.taken))
 
 pub pass_over-requires : goal.pass_over-requires
 pass_over-requires c = let t = c.requires.taken in (t.0, t.2.entries, t.2.taken)
