@@ -2,7 +2,6 @@ pub mod AcceptedLaws
 pub mod AimLaws
 pub mod BusLaws
 pub mod FeedChecks
-pub mod FeedSoFar
 pub mod FillLaws
 pub mod Found
 pub mod HoleLaws

@@ -18,6 +18,7 @@ use Rattle.cert_text.specs.Trees.{Marked, Plain, Plains, bound, fail, inner, lef
 use Rattle.bandwidth_bound.specs.declared.verdict.Verdict.{Verdict}
 use Rattle.cert_check.specs.declared.cert_walk.CertWalk.{CertWalk}
 use Rattle.cert_check.specs.declared.fault.CheckFault.{CheckFault}
+use Rattle.cert_check.specs.declared.fault.CheckFault.TheVariants as fault
 use Rattle.cert_check.specs.Entries.{Entry, as_event, as_hole, in_full}
 use Rattle.cert_check.specs.Nodes.{lowered}
 use Rattle.cert_check.specs.Holes.{Hole, HoleStands, HolesStand, bounds_in_hole, hole_here, holes_in, holes_of, least_in_holes}
@@ -409,3 +410,15 @@ pub found_same : (problem : Parts) (goal other : Goal) (shards again : List Shar
 found_same problem goal other shards again answer goal_is shards_are found =
     subst (λ ss. AreFound problem other ss answer) shards_are
     (subst (λ g. AreFound problem g shards answer) goal_is found)
+
+-- some shard doesn't stand
+pub some_fall : (problem : Parts) (goal : Goal) (shards : List Shard) (why : CheckFault) → why ≡ fault.RejectedTree
+    → AreFound problem goal shards (Err why) → ¬ All (ShardStands problem goal) shards
+some_fall problem goal shards why is found = subst (λ w. AreFound problem goal shards (Err w)) is found
+
+-- the shards that were moved
+pub items_same : (shards other : Vec Shard Global) → shards ≡ other → shards.items ≡ other.items
+items_same shards other is = ap (λ (v : Vec Shard Global). v.items) is
+
+pub items_none : (shards other : Vec Shard Global) → shards ≡ other → other.items ≡ [] → shards.items ≡ []
+items_none shards other is empty = items_same shards other is ∙ empty

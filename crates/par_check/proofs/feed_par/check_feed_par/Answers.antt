@@ -1,7 +1,7 @@
 use Rattle.std.proofs.Common.{◌++◌, [], Ok, Err, refl, sym}
 use Rattle.std.proofs.lemmas.Result.{err_from_is_err_and}
 use Rattle.cert_text.proofs.GivenLaws.{events_begin}
-use Rattle.cert_check.proofs.FeedSoFar.{none_so_far, one_more, refused_told, refused_size, refused_some, refused_quiet, shown_told, shown_size, shown_some, denied_told, denied_size, denied_some}
+use Rattle.cert_check.proofs.FeedChecks.{none_so_far, one_more, refused_told, refused_size, refused_some, refused_quiet, refused_rose, shown_told, shown_size, shown_some, denied_told, denied_size, denied_some, denied_unread}
 use Rattle.par_check.specs.ShardWalks.{ShardsBegun}
 use Rattle.par_check.proofs.feed_par.check_feed_par.Goals as goal
 
@@ -65,7 +65,26 @@ returns-in_err-event-clause-quiet g c =
     rw (p.1, p.2) (refused_quiet s c.args.problem.now c.args.matrix.now c.next.new.folder c.next.new.self c.in_err-event.field-0.0
     (c.in_err-event.ensures.answer s.bytes s.events s.given))
 
+pub returns-in_err-event-clause-read_fault : goal.returns-in_err-event-clause-read_fault
+returns-in_err-event-clause-read_fault g c =
+    let s = c.loop-feed.invariant in
+    let p = err_from_is_err_and c.from_residual-in_err-event.result c.from_residual-in_err-event.ensures.1 in
+    rw (p.1, p.2) (refused_rose s c.args.problem.now c.args.matrix.now c.next.new.folder c.next.new.self
+    c.in_err-event.field-0.0 (c.in_err-event.ensures.answer s.bytes s.events s.given))
+
+-- ---- memory runs out
+
+pub returns-in_err-go_on-clause-some : goal.returns-in_err-go_on-clause-some
+returns-in_err-go_on-clause-some g c =
+    let p = err_from_is_err_and c.from_residual-in_err-go_on.result c.from_residual-in_err-go_on.ensures.1 in
+    rw (p.1, p.2) ([], tt)
+
 -- ---- the walk denies
+
+pub returns-in_err-shown-clause-read_fault : goal.returns-in_err-shown-clause-read_fault
+returns-in_err-shown-clause-read_fault g c =
+    let p = err_from_is_err_and c.from_residual-in_err-shown.result c.from_residual-in_err-shown.ensures.1 in
+    rw (p.1, p.2) (denied_unread c.in_err-shown.field-0.0 _)
 
 pub returns-in_err-shown-clause-told : goal.returns-in_err-shown-clause-told
 returns-in_err-shown-clause-told g c =

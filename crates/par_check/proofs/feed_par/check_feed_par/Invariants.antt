@@ -1,5 +1,5 @@
 use Rattle.cert_text.specs.Depths.{bytes_ahead}
-use Rattle.cert_check.proofs.FeedSoFar.{TakesSoFar, turns_left}
+use Rattle.cert_check.proofs.FeedChecks.{TakesSoFar, turns_left}
 use Rattle.par_check.specs.ShardWalks.{ShardsBegun}
 use Rattle.par_check.proofs.feed_par.check_feed_par.Given as goal
 
