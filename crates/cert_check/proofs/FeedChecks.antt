@@ -1,8 +1,10 @@
--- A certificate that is read piece by piece: what a feed gave so far and a walk took, and what is answered.
+-- A certificate that is read piece by piece: what a feed gave so far and a reader of events took, and what is
+-- answered.
 use Rattle.std.proofs.Common.{◌≡◌, ◌<◌, ◌+◌, ◌^◌, ℕ, Bool, true, false, List, [], ◌∷◌, ◌++◌, length, map, Some, None, Ok, Err, Result, refl, sym, ap, subst, ◌∙◌, arith, length-append, true≢false}
 use Rattle.std.specs.Prelude.{IsSome, OnOk, IsErrOf}
 use Rattle.std.proofs.lemmas.List.{map_push}
 use Rattle.pack_model.specs.Problem.{Parts}
+use Rattle.pack_base.specs.Counts.{Rose}
 use Rattle.pack_base.specs.Outside.{Files, SameFaults, bytes_at}
 use Rattle.matrix_rows.specs.declared.matrix.MatrixRow.{MatrixRow}
 use Rattle.cert_text.specs.declared.event.Event.{Event}
@@ -12,7 +14,7 @@ use Rattle.cert_text.specs.declared.fault.FeedFault.TheVariants as feed_fault
 use Rattle.cert_text.specs.declared.feed.CertFeed.{CertFeed}
 use Rattle.cert_text.specs.CertEvents.{cert_events}
 use Rattle.cert_text.specs.Depths.{is_last}
-use Rattle.cert_text.specs.Given.{Feeds, Given, IsRefused, IsTextOf}
+use Rattle.cert_text.specs.Given.{BeginsEvents, Feeds, Given, IsRefused, IsTextOf}
 use Rattle.cert_text.specs.Parts.{CertOf, unmark_cert}
 use Rattle.cert_text.specs.Reading.{cert_of_text}
 use Rattle.cert_text.specs.Sources.{Ends, Reads, cause, text_refusal}
@@ -37,6 +39,10 @@ use Rattle.cert_check.specs.Taken.{HasOwnParts, Taken}
 abbrev pub refusal_is : FeedFault → Result Verdict FeedCheck
 refusal_is why = Err (check_of_feed why)
 
+-- and where what was read is denied
+abbrev pub denial_is : CheckFault → Result Verdict FeedCheck
+denial_is why = Err (check_of_fault why)
+
 -- a failed read is told
 failed_of_cause : (why : FeedFault) → cause why ≡ Some feed_fault.ReadFault
     → refusal_is why ≡ Err feed.ReadFault
@@ -46,25 +52,57 @@ failed_of_cause (feed_fault.BadLine n) failed = cc
 failed_of_cause feed_fault.Cut failed = cc
 failed_of_cause feed_fault.Memory failed = cc
 
+-- where a certificate is denied, none was
+never_read : (why : CheckFault) → ¬ (denial_is why ≡ Err feed.ReadFault)
+never_read fault.RejectedMatrix failed = cc
+never_read fault.RejectedTiming failed = cc
+never_read fault.RejectedTree failed = cc
+never_read fault.Memory failed = cc
+
+pub denied_unread : (why : CheckFault) (P : Type 0) → IsErrOf (denial_is why) feed.ReadFault → P
+denied_unread why P failed = absurd (never_read why failed)
+
+-- a failed read is what is told
+cause_of_failed : (why : FeedFault) → refusal_is why ≡ Err feed.ReadFault → cause why ≡ Some feed_fault.ReadFault
+cause_of_failed feed_fault.ReadFault failed = refl
+cause_of_failed feed_fault.TooLarge failed = absurd cc
+cause_of_failed (feed_fault.BadLine n) failed = absurd cc
+cause_of_failed feed_fault.Cut failed = absurd cc
+cause_of_failed feed_fault.Memory failed = absurd cc
+
+-- ---- events that a walk took
+
+-- it took them all, without a hole
+abbrev pub WalkTook : CertWalk → Parts → List MatrixRow → List Event → Type 0
+WalkTook walk problem rows events = Taken walk problem rows (map as_event events)
+
+-- one more
+pub walk_more : (walk later : CertWalk) (problem : Parts) (rows : List MatrixRow) (e : Event)
+    → ((rows : List MatrixRow) (entries : List Entry) → Taken walk problem rows entries
+    → Taken later problem rows (entries ++ as_event e ∷ []))
+    → (events : List Event) → WalkTook walk problem rows events → BeginsEvents (events ++ e ∷ [])
+    → WalkTook later problem rows (events ++ e ∷ [])
+walk_more walk later problem rows e takes events took begins =
+    subst (Taken later problem rows) (sym (map_push as_event events e)) (takes rows (map as_event events) took)
+
 -- ---- the loop
 
--- so far a feed gave these bytes and events, and a walk took them; where the feed ended, the bytes are a text of
--- the certificate with these events, and the file ends there
+-- so far a feed gave these bytes and events, which were taken; where the feed ended, the bytes are a text of the
+-- certificate with these events, and the file ends there
 pub record TakesSoFar {F : Type 0} (files : F → Files) (r w g : F → List ℕ → ℕ) (name : List ℕ) (old now : F)
-    (problem : Parts) (rows : List MatrixRow) (reader : CertFeed) (walk : CertWalk) : Type 0 where
+    (reader : CertFeed) (Took : List Event → Type 0) : Type 0 where
   pub bytes : List ℕ
   pub events : List Event
   pub given : Given reader bytes events
-  pub taken : Taken walk problem rows (map as_event events)
+  pub taken : Took events
   pub reads : Reads files r w g name 0 old now None bytes
   pub text : reader.ended ≡ true → IsTextOf bytes events
   pub ends : reader.ended ≡ true → Ends (files old) name 0 bytes
 
 pub none_so_far : {F : Type 0} (files : F → Files) (r w g : F → List ℕ → ℕ) (name : List ℕ) (here : F)
-    (problem : Parts) (rows : List MatrixRow) (reader : CertFeed) (walk : CertWalk) → Given reader [] []
-    → reader.ended ≡ false → Taken walk problem rows []
-    → TakesSoFar files r w g name here here problem rows reader walk
-none_so_far files r w g name here problem rows reader walk given goes_on taken = record {
+    (reader : CertFeed) (Took : List Event → Type 0) → Given reader [] [] → reader.ended ≡ false → Took []
+    → TakesSoFar files r w g name here here reader Took
+none_so_far files r w g name here reader Took given goes_on taken = record {
   bytes = [];
   events = [];
   given = given;
@@ -94,25 +132,22 @@ last_is event.JoinMark h = absurd (true≢false (sym h))
 last_is event.Finish h = refl
 
 module _ {F : Type 0} {files : F → Files} {r w g : F → List ℕ → ℕ} {name : List ℕ} {old now : F}
-    {problem : Parts} {rows : List MatrixRow} {reader : CertFeed} {walk : CertWalk}
-    (s : TakesSoFar files r w g name old now problem rows reader walk) where
+    {reader : CertFeed} {Took : List Event → Type 0}
+    (s : TakesSoFar files r w g name old now reader Took) where
   -- one event more
-  pub one_more : (next : F) (after : CertFeed) (later : CertWalk) (e : Event)
+  pub one_more : (next : F) (after : CertFeed) (Later : List Event → Type 0) (e : Event)
       → ((bytes : List ℕ) (events : List Event) → Given reader bytes events
       → Feeds files r w g name now next after bytes events (Ok e))
       → after.ended ≡ is_last (Ok e)
-      → ((matrix : List MatrixRow) (entries : List Entry) → Taken walk problem matrix entries
-      → Taken later problem matrix (entries ++ as_event e ∷ []))
-      → TakesSoFar files r w g name old next problem rows after later
-  one_more next after later e answer ended takes =
+      → ((events : List Event) → Took events → BeginsEvents (events ++ e ∷ []) → Later (events ++ e ∷ []))
+      → TakesSoFar files r w g name old next after Later
+  one_more next after Later e answer ended takes =
       let feeds : Feeds files r w g name now next after s.bytes s.events (Ok e) =
       answer s.bytes s.events s.given in record {
         bytes = s.bytes ++ feeds.more;
         events = s.events ++ e ∷ [];
         given = feeds.answer.given;
-        taken =
-            subst (Taken later problem rows) (sym (map_push as_event s.events e))
-            (takes rows (map as_event s.events) s.taken);
+        taken = takes s.events s.taken feeds.answer.begins;
         reads = reads_then s.reads feeds.reads (omega arith);
         text = λ is. feeds.answer.text (last_is e (sym ended ∙ is));
         ends = λ is.
@@ -126,7 +161,7 @@ module _ {F : Type 0} {files : F → Files} {r w g : F → List ℕ → ℕ} {na
   whole more told ends =
       ends_then (length s.bytes) more s.reads ends (omega arith) told [] refl (bytes_at (files old) name, refl)
 
-  module _ (next : F) (after : CertFeed) (why : FeedFault)
+  module _ (problem : Parts) (rows : List MatrixRow) (next : F) (after : CertFeed) (why : FeedFault)
       (feeds : Feeds files r w g name now next after s.bytes s.events (Err why)) where
     -- what is answered of the bytes that were read
     pub refused_some : FeedFinds problem rows (s.bytes ++ feeds.more) (Err (check_of_feed why))
@@ -175,6 +210,13 @@ module _ {F : Type 0} {files : F → Files} {r w g : F → List ℕ → ℕ} {na
             omega (arith, short, ap length (whole feeds.more told refused.1))
         by feed_fault.Memory refused reads = tt
 
+    -- a read failed where that is told
+    pub refused_rose : IsErrOf (refusal_is why) feed.ReadFault → Rose (r old name) (r next name)
+    refused_rose failed =
+        let reads : Reads files r w g name 0 old next (cause why) (s.bytes ++ feeds.more) =
+        reads_then s.reads feeds.reads (omega arith) in
+        reads.rose (cause_of_failed why failed)
+
     -- no read failed but where it is told
     pub refused_quiet : (IsErrOf (refusal_is why) feed.ReadFault → ⊥) → SameFaults r w old next
     refused_quiet calm =
@@ -184,11 +226,11 @@ module _ {F : Type 0} {files : F → Files} {r w g : F → List ℕ → ℕ} {na
 
   -- ---- at the end
 
-  module _ (ended : reader.ended ≡ true) (answer : Result Verdict CheckFault)
-      (found : (marked : CertOf Marked) → HasOwnParts (unmark_cert marked)
-      → Taken walk problem rows (map as_event (cert_events marked)) → IsFound problem rows (unmark_cert marked) answer)
-      (holds : (marked : CertOf Marked) → HasOwnParts (unmark_cert marked)
-      → Taken walk problem rows (map as_event (cert_events marked))
+  module _ (problem : Parts) (rows : List MatrixRow) (ended : reader.ended ≡ true)
+      (answer : Result Verdict CheckFault)
+      (found : (marked : CertOf Marked) → HasOwnParts (unmark_cert marked) → Took (cert_events marked)
+      → IsFound problem rows (unmark_cert marked) answer)
+      (holds : (marked : CertOf Marked) → HasOwnParts (unmark_cert marked) → Took (cert_events marked)
       → OnOk answer (Holds (judged_of problem rows (unmark_cert marked)))) where
     -- the bytes are those of the file
     file_is : IsSome (files old) → s.bytes ≡ bytes_at (files old) name
@@ -199,8 +241,7 @@ module _ {F : Type 0} {files : F → Files} {r w g : F → List ℕ → ℕ} {na
     found_in =
         let t : IsTextOf s.bytes s.events = s.text ended in
         let parts : HasOwnParts (unmark_cert t.marked) = text_parts s.bytes (unmark_cert t.marked) t.text in
-        let taken : Taken walk problem rows (map as_event (cert_events t.marked)) =
-        subst (λ es. Taken walk problem rows (map as_event es)) (sym t.said) s.taken in record {
+        let taken : Took (cert_events t.marked) = subst Took (sym t.said) s.taken in record {
           cert = unmark_cert t.marked;
           text = t.found;
           found = found t.marked parts taken;

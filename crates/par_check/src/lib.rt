@@ -5,13 +5,15 @@
 #![tactic(auto)]
 
 mod checking;
-mod feeding;
+mod feed_par;
+mod gathering;
 mod judging;
 mod laws;
 mod shard;
+mod shard_walk;
 
 pub use checking::check_shards;
-pub use feeding::check_feed_par;
+pub use feed_par::check_feed_par;
 pub use laws::answer_is_one;
 pub use shard::{Goal, Joined, Shard};
 

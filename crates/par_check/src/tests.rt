@@ -5,11 +5,12 @@ ghost use Rattle.pack_model.specs.Signal.{SignalStands};
 ghost use Rattle.cert_check.specs.Trees.{HasRoom};
 ghost use Rattle.par_check.specs.Shards.{IsGoal, IsShard};
 
-use crate::{Goal, Joined, Shard, check_shards};
-use cert_check::CheckFault;
+use crate::{Goal, Joined, Shard, check_feed_par, check_shards};
+use cert_check::{CheckFault, Verdict};
 use cert_text::{Kind, Tree};
 use grouping_tree::Partial;
-use pack_base::Gate;
+use matrix_text::read_matrix;
+use pack_base::{Gate, OpenGate, SteadyFolder};
 use pack_model::{Labels, Name, Network, Problem, Signal, Values, problem_of};
 use std::alloc::Global;
 use std::process::Abort;
@@ -166,4 +167,45 @@ fn shards_cross(rt: HostRuntime) {
     let problem = two_senders(&rt, rt.alloc());
     crosses(&goal_of(&rt, rt.alloc(), &problem, Kind::KindBest, 0));
     crosses(&main_shard(&rt, rt.alloc(), &problem, Tree::Bound));
+}
+
+/// The problem of two signals of one sender in one frame of two bytes, which takes 7400 ticks; its certificate has
+/// the whole main tree as a shard.
+#[test]
+fn a_marked_tree_is_judged(rt: HostRuntime) {
+    let network = Network {
+        ticks_per_us: 80,
+        nominal_ticks: 160,
+        data_ticks: 40,
+        first_id: 256,
+    };
+    let first = signal(&rt, rt.alloc(), b"S1", b"ECU1");
+    let second = signal(&rt, rt.alloc(), b"S2", b"ECU1");
+    let signals = Vec::from_array(rt.alloc(), [first, second]).expect(&rt, "memory");
+    let problem = problem_of(rt.alloc(), network, signals).expect(&rt, "a problem");
+    let matrix = read_matrix(
+        rt.alloc(),
+        b"id,sender,size,ticks,header,pdu,at,signal,start,bits\n256,ECU1,2,7400,none,,0,S1,0,8\n256,ECU1,2,7400,none,,0,S2,8,8\n",
+    )
+    .expect(&rt, "a matrix");
+    let mut folder = SteadyFolder::new(rt.alloc());
+    folder
+        .put(
+            "CERT",
+            b"canpack certificate 1\nkind best\nframe 7400 0\nmain\nshard\ni 1\nb\njoin\nend\n",
+        )
+        .expect(&rt, "memory");
+    for workers in [1, 2, 64] {
+        let answer = check_feed_par(
+            &rt,
+            rt.alloc(),
+            &problem,
+            &matrix,
+            &mut folder,
+            "CERT",
+            workers,
+            &OpenGate,
+        );
+        assert_eq!(rt; answer, Ok(Verdict::Best { load: 7400 }));
+    }
 }

@@ -1,30 +1,39 @@
 use Rattle.std.proofs.Common.{◌++◌, Ok, Err, refl, sym}
 use Rattle.std.proofs.lemmas.Result.{err_from_is_err_and}
-use Rattle.cert_check.proofs.FeedChecks.{none_so_far, one_more, refused_told, refused_size, refused_some, refused_quiet, shown_told, shown_size, shown_some, denied_told, denied_size, denied_some}
+use Rattle.cert_check.proofs.FeedChecks.{WalkTook, none_so_far, one_more, refused_told, refused_size, refused_some, refused_quiet, shown_told, shown_size, shown_some, denied_told, denied_size, denied_some, walk_more}
 use Rattle.cert_check.proofs.one_pass.check_feed.Goals as goal
 
 pub loop-feed-init : goal.loop-feed-init
 loop-feed-init g c =
     none_so_far g.F.Folder.files g.F.Folder.read_faults g.F.Folder.write_faults g.F.Folder.given
-    c.args.name.now c.args.folder.now c.args.problem.now c.args.matrix.now c.in_ok-feed.feed c.in_ok-walk.walk
-    c.in_ok-feed.ensures.given c.in_ok-feed.ensures.goes_on c.in_ok-walk.ensures
+    c.args.name.now c.args.folder.now c.in_ok-feed.feed
+    (WalkTook c.in_ok-walk.walk c.args.problem.now c.args.matrix.now) c.in_ok-feed.ensures.given c.in_ok-feed.ensures.goes_on c.in_ok-walk.ensures
 
 -- ---- one event more
 
 pub loop-feed-preserved-in_ok-event : goal.loop-feed-preserved-in_ok-event
 loop-feed-preserved-in_ok-event g c =
-    one_more c.loop-feed.invariant c.next.new.folder c.next.new.self c.take.new.self c.in_ok-event.event
-    c.in_ok-event.ensures.answer c.in_ok-event.ensures.ended c.take.ensures.taken
+    one_more c.loop-feed.invariant c.next.new.folder c.next.new.self
+    (WalkTook c.take.new.self c.args.problem.now c.args.matrix.now) c.in_ok-event.event
+    c.in_ok-event.ensures.answer c.in_ok-event.ensures.ended
+    (walk_more c.loop-feed.walk c.take.new.self c.args.problem.now c.args.matrix.now c.in_ok-event.event
+    c.take.ensures.taken)
 
 pub loop-feed-preserved-in_ok-event-2 : goal.loop-feed-preserved-in_ok-event-2
 loop-feed-preserved-in_ok-event-2 g c =
-    one_more c.loop-feed.invariant c.next.new.folder c.next.new.self c.take.new.self c.in_ok-event.event
-    c.in_ok-event.ensures.answer c.in_ok-event.ensures.ended c.take.ensures.taken
+    one_more c.loop-feed.invariant c.next.new.folder c.next.new.self
+    (WalkTook c.take.new.self c.args.problem.now c.args.matrix.now) c.in_ok-event.event
+    c.in_ok-event.ensures.answer c.in_ok-event.ensures.ended
+    (walk_more c.loop-feed.walk c.take.new.self c.args.problem.now c.args.matrix.now c.in_ok-event.event
+    c.take.ensures.taken)
 
 pub loop-feed-preserved : goal.loop-feed-preserved
 loop-feed-preserved g c =
-    one_more c.loop-feed.invariant c.next.new.folder c.next.new.self c.take.new.self c.in_ok-event.event
-    c.in_ok-event.ensures.answer c.in_ok-event.ensures.ended c.take.ensures.taken
+    one_more c.loop-feed.invariant c.next.new.folder c.next.new.self
+    (WalkTook c.take.new.self c.args.problem.now c.args.matrix.now) c.in_ok-event.event
+    c.in_ok-event.ensures.answer c.in_ok-event.ensures.ended
+    (walk_more c.loop-feed.walk c.take.new.self c.args.problem.now c.args.matrix.now c.in_ok-event.event
+    c.take.ensures.taken)
 
 -- ---- the feed refuses
 
@@ -32,14 +41,14 @@ pub returns-in_err-event-clause-told : goal.returns-in_err-event-clause-told
 returns-in_err-event-clause-told g c =
     let s = c.loop-feed.invariant in
     let p = err_from_is_err_and c.from_residual-in_err-event.result c.from_residual-in_err-event.ensures.1 in
-    rw (p.1, p.2) (refused_told s c.next.new.folder c.next.new.self c.in_err-event.field-0.0
+    rw (p.1, p.2) (refused_told s c.args.problem.now c.args.matrix.now c.next.new.folder c.next.new.self c.in_err-event.field-0.0
     (c.in_err-event.ensures.answer s.bytes s.events s.given))
 
 pub returns-in_err-event-clause-size : goal.returns-in_err-event-clause-size
 returns-in_err-event-clause-size g c =
     let s = c.loop-feed.invariant in
     let p = err_from_is_err_and c.from_residual-in_err-event.result c.from_residual-in_err-event.ensures.1 in
-    rw (p.1, p.2) (refused_size s c.next.new.folder c.next.new.self c.in_err-event.field-0.0
+    rw (p.1, p.2) (refused_size s c.args.problem.now c.args.matrix.now c.next.new.folder c.next.new.self c.in_err-event.field-0.0
     (c.in_err-event.ensures.answer s.bytes s.events s.given))
 
 pub returns-in_err-event-clause-some : goal.returns-in_err-event-clause-some
@@ -49,14 +58,14 @@ returns-in_err-event-clause-some g c =
     let p = err_from_is_err_and c.from_residual-in_err-event.result c.from_residual-in_err-event.ensures.1 in
     rw (p.1, p.2) (
       s.bytes ++ x.more,
-      refused_some s c.next.new.folder c.next.new.self c.in_err-event.field-0.0 x,
+      refused_some s c.args.problem.now c.args.matrix.now c.next.new.folder c.next.new.self c.in_err-event.field-0.0 x,
     )
 
 pub returns-in_err-event-clause-quiet : goal.returns-in_err-event-clause-quiet
 returns-in_err-event-clause-quiet g c =
     let s = c.loop-feed.invariant in
     let p = err_from_is_err_and c.from_residual-in_err-event.result c.from_residual-in_err-event.ensures.1 in
-    rw (p.1, p.2) (refused_quiet s c.next.new.folder c.next.new.self c.in_err-event.field-0.0
+    rw (p.1, p.2) (refused_quiet s c.args.problem.now c.args.matrix.now c.next.new.folder c.next.new.self c.in_err-event.field-0.0
     (c.in_err-event.ensures.answer s.bytes s.events s.given))
 
 -- ---- the walk denies
@@ -65,7 +74,7 @@ pub returns-in_err-shown-clause-told : goal.returns-in_err-shown-clause-told
 returns-in_err-shown-clause-told g c =
     let p = err_from_is_err_and c.from_residual-in_err-shown.result c.from_residual-in_err-shown.ensures.1 in
     let e = c.in_err-shown.ensures in
-    rw (p.1, p.2) (denied_told c.loop-feed.invariant (sym c.loop-feed-test.ensures)
+    rw (p.1, p.2) (denied_told c.loop-feed.invariant c.args.problem.now c.args.matrix.now (sym c.loop-feed-test.ensures)
     (Err c.in_err-shown.field-0.0) (e.found c.args.matrix.now) (e.holds c.args.matrix.now)
     c.in_err-shown.field-0.0 refl)
 
@@ -73,7 +82,7 @@ pub returns-in_err-shown-clause-size : goal.returns-in_err-shown-clause-size
 returns-in_err-shown-clause-size g c =
     let p = err_from_is_err_and c.from_residual-in_err-shown.result c.from_residual-in_err-shown.ensures.1 in
     let e = c.in_err-shown.ensures in
-    rw (p.1, p.2) (denied_size c.loop-feed.invariant (sym c.loop-feed-test.ensures)
+    rw (p.1, p.2) (denied_size c.loop-feed.invariant c.args.problem.now c.args.matrix.now (sym c.loop-feed-test.ensures)
     (Err c.in_err-shown.field-0.0) (e.found c.args.matrix.now) (e.holds c.args.matrix.now)
     c.in_err-shown.field-0.0)
 
@@ -84,7 +93,7 @@ returns-in_err-shown-clause-some g c =
     let e = c.in_err-shown.ensures in
     rw (p.1, p.2) (
       s.bytes,
-      denied_some s (sym c.loop-feed-test.ensures)
+      denied_some s c.args.problem.now c.args.matrix.now (sym c.loop-feed-test.ensures)
           (Err c.in_err-shown.field-0.0) (e.found c.args.matrix.now) (e.holds c.args.matrix.now)
           c.in_err-shown.field-0.0 refl,
     )
@@ -94,13 +103,13 @@ returns-in_err-shown-clause-some g c =
 pub returns-clause-told : goal.returns-clause-told
 returns-clause-told g c =
     let e = c.in_ok-shown.ensures in
-    shown_told c.loop-feed.invariant (sym c.loop-feed-test.ensures) (Ok c.in_ok-shown.shown)
+    shown_told c.loop-feed.invariant c.args.problem.now c.args.matrix.now (sym c.loop-feed-test.ensures) (Ok c.in_ok-shown.shown)
     (e.found c.args.matrix.now) (e.holds c.args.matrix.now) c.in_ok-shown.shown refl
 
 pub returns-clause-size : goal.returns-clause-size
 returns-clause-size g c =
     let e = c.in_ok-shown.ensures in
-    shown_size c.loop-feed.invariant (sym c.loop-feed-test.ensures) (Ok c.in_ok-shown.shown)
+    shown_size c.loop-feed.invariant c.args.problem.now c.args.matrix.now (sym c.loop-feed-test.ensures) (Ok c.in_ok-shown.shown)
     (e.found c.args.matrix.now) (e.holds c.args.matrix.now) c.in_ok-shown.shown
 
 pub returns-clause-some : goal.returns-clause-some
@@ -108,6 +117,6 @@ returns-clause-some g c =
     let s = c.loop-feed.invariant in
     let e = c.in_ok-shown.ensures in (
       s.bytes,
-      shown_some s (sym c.loop-feed-test.ensures) (Ok c.in_ok-shown.shown)
+      shown_some s c.args.problem.now c.args.matrix.now (sym c.loop-feed-test.ensures) (Ok c.in_ok-shown.shown)
           (e.found c.args.matrix.now) (e.holds c.args.matrix.now) c.in_ok-shown.shown refl,
     )
