@@ -18,7 +18,7 @@ use Rattle.cert_check.specs.declared.walk.Aim.{Aim}
 use Rattle.cert_check.specs.Entries.{in_full}
 use Rattle.cert_check.specs.Holes.{holes_in, holes_of_tree, holes_of_trees}
 use Rattle.cert_check.specs.Joined.{HolesAimed, IsAimed, aim_in}
-use Rattle.cert_check.specs.Said.{Said, TreeSaid, and_said, lemma_aim, lemma_begun, main_aim, main_begun, nothing_said, said_by, with_node}
+use Rattle.cert_check.specs.Said.{Said, TreeSaid, and_said, lemma_aim, lemma_begun, main_aim, main_begun, nothing_said, said_by, with_end, with_node}
 use Rattle.cert_check.specs.Nodes.{Node, bound_leaf, fail_leaf, inner_node, open_leaf}
 use Rattle.cert_check.specs.Taken.{ComesNext, EachStandsSaid, Stores, falls, goal_said, load_in}
 use Rattle.cert_check.specs.Walk.{values_in}
@@ -221,7 +221,8 @@ module _ (problem : Parts) (best : Option ℕ) where
   main_aims s old senders = record { here = (refl, refl); older = old; senders = senders }
 
   -- further nodes
-  node_aims : (main : Bool) (s : Said) (n : Node) → Aims (at_trees main) s → Aims (at_trees main) (with_node n s)
+  node_aims : (main : Bool) (s : Said) (n : Node) → Aims (at_trees main) s
+      → Aims (at_trees main) (with_node n s)
   node_aims true s n aims = record { here = aims.here; older = aims.older; senders = aims.senders }
   node_aims false s n aims = record {
     here = record { sender = aims.here.sender; aim = aims.here.aim; so_far = aims.here.so_far };
@@ -230,7 +231,7 @@ module _ (problem : Parts) (best : Option ℕ) where
   }
 
   -- what changes no tree
-  same_aims : (main : Bool) (s : Said) → Aims (at_trees main) s → Aims (at_trees main) (record s { finished = true })
+  same_aims : (main : Bool) (s : Said) → Aims (at_trees main) s → Aims (at_trees main) (with_end s)
   same_aims true s aims = record { here = aims.here; older = aims.older; senders = aims.senders }
   same_aims false s aims = record { here = aims.here; older = aims.older; senders = aims.senders }
 
@@ -260,7 +261,8 @@ module _ (problem : Parts) (best : Option ℕ) where
       events_aims (at_trees true) (main_begun best s) es order next
       (main_aims s (inr aims.here, aims.older) aims.senders)
   events_aims (at_trees main) s (event.Node n ∷ es) order next aims =
-      events_aims (at_trees main) (with_node (inner_node n) s) es order next (node_aims main s (inner_node n) aims)
+      events_aims (at_trees main) (with_node (inner_node n) s) es order next
+      (node_aims main s (inner_node n) aims)
   events_aims (at_trees main) s (event.BoundLeaf ∷ es) order next aims =
       events_aims (at_trees main) (with_node bound_leaf s) es order next (node_aims main s bound_leaf aims)
   events_aims (at_trees main) s (event.OpenLeaf ∷ es) order next aims =

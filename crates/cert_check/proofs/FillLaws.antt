@@ -7,7 +7,7 @@ use Rattle.bandwidth_bound.specs.Trees.{Goal, TreeStands, open_places}
 use Rattle.cert_check.specs.Holes.{hole_at, holes_in}
 use Rattle.cert_check.specs.Nodes.{Node, NodesStand, bound_leaf, bounds_of, fail_leaf, hole, inner_node, lowered, nodes_of, open_leaf, places_after_nodes, places_of}
 use Rattle.cert_check.proofs.TreeLaws.{lowered_swap}
-use Rattle.cert_check.proofs.Walks.{after_append, bounds_append, lowered_append, stand_append, stand_first, stand_further, stood, walked}
+use Rattle.cert_check.proofs.Walks.{bounds_append, lowered_append, stand_append, stand_first, stand_further, stood, walked}
 
 -- a node in full
 abbrev pub filled_node : Node → List Node
@@ -103,7 +103,8 @@ module _ (goal : Goal) where
       let there : List ℕ = bounds_at_hole (p, t) in
       let later : List ℕ = hole_bounds (holes_in goal places ns) in
       ap (lowered o) (bounds_append goal (p ∷ places) (nodes_of t) (filled ns) here.stand
-      ∙ ap (λ xs. xs ++ bounds_of goal (places_after_nodes goal (p ∷ places) (nodes_of t)) (filled ns)) here.opens
+      ∙ ap (λ xs. xs ++ bounds_of goal (places_after_nodes goal (p ∷ places) (nodes_of t)) (filled ns))
+      here.opens
       ∙ ap (λ ps. there ++ bounds_of goal ps (filled ns)) here.after)
       ∙ lowered_append o there (bounds_of goal places (filled ns))
       ∙ fill_least (lowered o there) places ns a.1 h.1

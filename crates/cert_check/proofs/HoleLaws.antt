@@ -1,6 +1,5 @@
 -- What was told with holes, and the same in full: the events of its tree in the place of each hole.
-use Rattle.std.specs.Prelude.{⊤, ◌↔◌}
-use Rattle.std.proofs.Common.{◌≡◌, ℕ, All, List, [], ◌∷◌, ◌++◌, fold, map, Option, None, Some, refl, sym, ap, subst, ◌∙◌, append_assoc, append-nil}
+use Rattle.std.proofs.Common.{◌≡◌, ℕ, All, List, [], ◌∷◌, ◌++◌, fold, map, Option, refl, sym, ap, subst, ◌∙◌, append_assoc, append-nil}
 use Rattle.std.proofs.lemmas.Grind.{flat_map-append}
 use Rattle.std.proofs.lemmas.List.{map-append}
 use Rattle.std.proofs.lemmas.List.Elements.{All-append, All-cons, All-head, All-nil, All-tail}
@@ -14,8 +13,8 @@ use Rattle.bandwidth_bound.proofs.PriceFrames.{all_back, all_front}
 use Rattle.cert_check.specs.Entries.{Entry, as_event, as_hole, in_full}
 use Rattle.cert_check.specs.Holes.{Hole, HoleStands, hole_at, holes_in, holes_of_tree, holes_of_trees, told_holes}
 use Rattle.cert_check.specs.Nodes.{Node, bound_leaf, fail_leaf, hole, inner_node, nodes_of, open_leaf, places_after_nodes}
-use Rattle.cert_check.specs.Said.{Said, TreeSaid, and_entry, and_said, nothing_said, said_by, tree_begun, with_node, with_nodes}
-use Rattle.cert_check.specs.Taken.{AllStandSaid, EachStandsSaid, StandsSaid, goal_said}
+use Rattle.cert_check.specs.Said.{Said, TreeSaid, and_entry, and_said, nothing_said, said_by, with_node, with_nodes}
+use Rattle.cert_check.specs.Taken.{AllStandSaid, EachStandsSaid, goal_said}
 use Rattle.cert_check.specs.Walk.{values_in}
 use Rattle.cert_check.proofs.FillLaws.{EachHole, fill_stand, fill_stood, filled, filled_node, holes_append, holes_more}
 use Rattle.cert_check.proofs.SaidLaws.{tree_said}
@@ -36,7 +35,8 @@ abbrev to_nodes : Said → List Node → Said
 to_nodes s nodes = record s { tree = record s.tree { nodes = nodes } }
 
 -- further nodes
-filled_more : (s : Said) (n : Node) → with_nodes (filled_node n ++ []) (said_filled s) ≡ said_filled (with_node n s)
+filled_more : (s : Said) (n : Node)
+    → with_nodes (filled_node n ++ []) (said_filled s) ≡ said_filled (with_node n s)
 filled_more s n = ap (to_nodes (said_filled s)) (sym (flat_map-append filled_node s.tree.nodes (n ∷ [])))
 
 module _ (best : Option ℕ) where
@@ -116,12 +116,14 @@ module _ (problem : Parts) where
 
   -- trees stand in full where they stand, and the trees of their holes do
   trees_fill : (trees : List TreeSaid) → EachStandsSaid problem trees
-      → All (HoleStands problem) (holes_of_trees problem trees) → EachStandsSaid problem (map tree_filled trees)
+      → All (HoleStands problem) (holes_of_trees problem trees)
+      → EachStandsSaid problem (map tree_filled trees)
   trees_fill [] each all = tt
   trees_fill (tree ∷ trees) each all = (
     record {
       next = each.0.next;
-      nodes = fill_stand (goal_said problem tree) ([] ∷ []) tree.nodes each.0.nodes (tree_holes tree trees all);
+      nodes =
+          fill_stand (goal_said problem tree) ([] ∷ []) tree.nodes each.0.nodes (tree_holes tree trees all);
     },
     trees_fill trees each.1
         (all_front (HoleStands problem) (holes_of_trees problem trees) (holes_of_tree problem tree) all),

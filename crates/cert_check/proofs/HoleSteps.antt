@@ -1,21 +1,20 @@
 -- The laws of holes, entry by entry, over a walk that took them.
-use Rattle.std.specs.Prelude.{◌↔◌}
-use Rattle.std.proofs.Common.{◌≡◌, ℕ, Bool, true, false, All, List, [], ◌∷◌, ◌++◌, cond, fold, map, Option, refl, sym, ap, subst, ◌∙◌, true≢false}
+use Rattle.std.proofs.Common.{◌≡◌, ℕ, Bool, true, false, All, List, [], ◌∷◌, ◌++◌, cond, map, refl, sym, ap, subst, ◌∙◌}
 use Rattle.std.proofs.lemmas.List.Sums.{fold-append}
 use Rattle.pack_model.specs.Problem.{Parts}
 use Rattle.matrix_rows.specs.declared.matrix.MatrixRow.{MatrixRow}
-use Rattle.cert_text.specs.Trees.{Marked, Plain, unmark}
+use Rattle.cert_text.specs.Trees.{Plain, unmark}
 use Rattle.grouping_tree.specs.Grouped.{labels_of}
 use Rattle.grouping_tree.specs.Walk.{places_left}
 use Rattle.cert_check.specs.declared.cert_walk.CertWalk.{CertWalk}
-use Rattle.cert_check.specs.Entries.{Entry, as_event, as_hole, in_full}
-use Rattle.cert_check.specs.Holes.{Hole, HoleStands, HolesStand, hole_here, holes_in, told_holes}
+use Rattle.cert_check.specs.Entries.{Entry, as_event, as_hole}
+use Rattle.cert_check.specs.Holes.{HoleStands, hole_here, holes_in, told_holes}
 use Rattle.cert_check.specs.Joined.{EventTaken, FailedStays, HoleTaken, HolesStay, StandsInFull}
-use Rattle.cert_check.specs.Nodes.{Node, NodesStand, hole, places_after_nodes}
+use Rattle.cert_check.specs.Nodes.{NodesStand, hole, places_after_nodes}
 use Rattle.cert_check.specs.Said.{Said, and_entry, nothing_said, said_by, with_node}
 use Rattle.cert_check.specs.Taken.{AllStandSaid, IsInTree, Stores, Taken, falls, goal_said, load_in}
-use Rattle.cert_check.specs.Walk.{items_of, places_to_come, values_in}
-use Rattle.cert_check.proofs.HoleLaws.{event_holes, fewer_holes, fewer_stand, full_is, hole_holes, hole_in, node_fewer, said_fill, said_filled, said_stood}
+use Rattle.cert_check.specs.Walk.{items_of, places_to_come}
+use Rattle.cert_check.proofs.HoleLaws.{event_holes, fewer_holes, fewer_stand, full_is, hole_holes, hole_in, node_fewer, said_fill, said_stood}
 use Rattle.cert_check.proofs.SaidLaws.{said_more}
 use Rattle.cert_check.proofs.StoreLaws.{none_falls, some_falls, tree_stands}
 use Rattle.cert_check.proofs.SubtreeLaws.{load_same}
@@ -40,7 +39,8 @@ holes_stay problem rows before after entries more first now all =
     let best = load_in before.placing in
     fewer_holes problem best (said_by problem best entries) more
     (subst (λ s. All (HoleStands problem) (told_holes problem s))
-    (ap (λ b. said_by problem b (entries ++ more)) (same_load problem rows before after entries (entries ++ more) first now)
+    (ap (λ b. said_by problem b (entries ++ more))
+    (same_load problem rows before after entries (entries ++ more) first now)
     ∙ fold-append (and_entry best) (nothing_said problem) entries more) all)
 
 pub failed_stays : FailedStays
@@ -55,7 +55,9 @@ stands_in_full problem rows walk entries taken =
     let best = load_in walk.placing in
     let s : Said = said_by problem best entries in (
       λ all. said_stood problem s (subst (AllStandSaid problem) (full_is problem best entries) all),
-      λ both. subst (AllStandSaid problem) (sym (full_is problem best entries)) (said_fill problem s both.0 both.1),
+      λ both.
+          subst (AllStandSaid problem) (sym (full_is problem best entries))
+          (said_fill problem s both.0 both.1),
     )
 
 -- ---- a hole that is passed over

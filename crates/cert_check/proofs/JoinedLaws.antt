@@ -1,12 +1,11 @@
 -- What is found of a whole certificate by what was found of it with holes.
 use Rattle.std.specs.Prelude.{⊤, ◌↔◌}
-use Rattle.std.proofs.Common.{◌≡◌, ◌≤◌, ◌⊎◌, inl, inr, ℕ, All, List, [], ◌∷◌, ◌++◌, length, map, Option, None, Some, Ok, Err, Result, refl, sym, ap, subst, ◌∙◌, append-nil}
+use Rattle.std.proofs.Common.{◌≡◌, ◌⊎◌, inl, inr, ℕ, All, List, [], ◌∷◌, ◌++◌, map, Option, None, Some, Ok, Err, Result, refl, sym, ap, subst, ◌∙◌, append-nil}
 use Rattle.std.proofs.lemmas.Grind.{flat_map-append}
 use Rattle.std.specs.List.{flat_map}
 use Rattle.pack_model.specs.Problem.{Parts}
 use Rattle.grouping_tree.specs.Grouped.{items_in}
 use Rattle.matrix_rows.specs.declared.matrix.MatrixRow.{MatrixRow}
-use Rattle.cert_text.specs.declared.parts.FrameLine.{FrameLine}
 use Rattle.cert_text.specs.declared.parts.Kind.{Kind}
 use Rattle.cert_text.specs.declared.parts.Kind.TheVariants.{KindPlaced, KindTimed, KindBetween, KindBest, KindNoSolution}
 use Rattle.cert_text.specs.CertEvents.{cert_events}
@@ -21,13 +20,12 @@ use Rattle.cert_check.specs.declared.fault.CheckFault.{CheckFault}
 use Rattle.cert_check.specs.declared.fault.CheckFault.TheVariants as fault
 use Rattle.cert_check.specs.Entries.{Entry, as_event, in_full}
 use Rattle.cert_check.specs.Holes.{Hole, HoleStands, HolesStand, bounds_in_hole, bounds_over, holes_in, holes_of_tree, holes_of_trees, least_in_holes, told_holes}
-use Rattle.cert_check.specs.Joined.{FoundInFull, IsFoundHolding, IsFoundInFull, denied}
-use Rattle.cert_check.specs.Nodes.{NodesStand, bounds_of, lowered, nodes_of}
+use Rattle.cert_check.specs.Joined.{FoundInFull, IsFoundHolding, denied}
+use Rattle.cert_check.specs.Nodes.{NodesStand, bounds_of, lowered}
 use Rattle.cert_check.specs.Said.{Said, TreeSaid, cert_said, lemma_said, lemmas_said, lines_said, main_said, said_by, with_end}
-use Rattle.cert_check.specs.Taken.{AllStandSaid, HasOwnParts, Taken, falls, goal_said, load_in, one_more}
+use Rattle.cert_check.specs.Taken.{AllStandSaid, HasOwnParts, Taken, goal_said, load_in, one_more}
 use Rattle.cert_check.specs.Told.{IsFoundOf, IsFoundTold, TreesOfTold, bounds_told, verdict_told}
-use Rattle.cert_check.specs.Trees.{IsVerdict, lower_with}
-use Rattle.cert_check.specs.Walk.{values_in}
+use Rattle.cert_check.specs.Trees.{lower_with}
 use Rattle.cert_check.proofs.FillLaws.{filled, filled_none, fill_least, hole_bounds}
 use Rattle.cert_check.proofs.HoleLaws.{full_is, hole_in, none_begun, said_fill, said_filled, said_stood, tree_filled, tree_holes}
 use Rattle.cert_check.proofs.Judged.{found_cert, holds_cert, the_tree, verdict_same}
@@ -55,7 +53,8 @@ ranged_lemmas (lemma ∷ lemmas) s each =
 
 module _ (problem : Parts) where
   -- holes over one sender's items have no bounds
-  none_over : (range : Option ℕ) (sender : ℕ) (h : Hole) → range ≡ Some sender → bounds_over problem range h ≡ []
+  none_over : (range : Option ℕ) (sender : ℕ) (h : Hole) → range ≡ Some sender
+      → bounds_over problem range h ≡ []
   none_over None sender h is = absurd cc
   none_over (Some other) sender h is = refl
 
@@ -112,7 +111,8 @@ module _ (problem : Parts) (best lower : Option ℕ) (s : Said) where
 
   -- the least bound is the same
   abbrev LeastIsSame : Type 0
-  LeastIsSame = lowered None (bounds_told problem s lower) ≡ lowered None (bounds_told problem (said_filled s) None)
+  LeastIsSame =
+      lowered None (bounds_told problem s lower) ≡ lowered None (bounds_told problem (said_filled s) None)
 
   same_by_kind : (AllStandSaid problem s ↔ AllStandSaid problem (said_filled s)) → (kind : Kind)
       → (kind ≡ KindBetween → AllStandSaid problem s → LeastIsSame) → IsSame kind
@@ -151,8 +151,8 @@ module _ (problem : Parts) (best lower : Option ℕ) (s : Said) where
   found_denied rows not_so (Err fault.Memory) f = f
 
   -- the least bound of the main tree, where those in holes are given
-  least_same : AllStandSaid problem s → All (HoleStands problem) (told_holes problem s) → s.tree.aim.range ≡ None
-      → AreRanged (map tree_filled s.older)
+  least_same : AllStandSaid problem s → All (HoleStands problem) (told_holes problem s)
+      → s.tree.aim.range ≡ None → AreRanged (map tree_filled s.older)
       → lower ≡ lowered None (flat_map (bounds_in_hole problem) (told_holes problem s)) → LeastIsSame
   least_same all holes whole ranged is =
       let goal = goal_said problem s.tree in
@@ -189,7 +189,8 @@ IsTree (Some tree) = ⊤
 module _ (problem : Parts) (rows : List MatrixRow) (walk : CertWalk) (entries : List Entry)
     (marked : CertOf Marked) (lower : Option ℕ) (answer : Result Verdict CheckFault)
     (parts : HasOwnParts (unmark_cert marked)) (taken : Taken walk problem rows entries)
-    (whole : in_full entries ≡ cert_events marked) (found : IsFoundOf problem rows walk entries lower answer) where
+    (whole : in_full entries ≡ cert_events marked)
+    (found : IsFoundOf problem rows walk entries lower answer) where
   abbrev best : Option ℕ
   best = load_in walk.placing
 

@@ -1,12 +1,12 @@
 -- What is found of the open leaves of the main tree.
-use Rattle.std.proofs.Common.{◌≡◌, ℕ, ◌≤◌, ◌*◌, List, [], ◌∷◌, length, map, min, fold, Option, None, Some, refl, sym, ap, ◌∙◌, arith}
+use Rattle.std.proofs.Common.{◌≡◌, ℕ, ◌≤◌, List, [], ◌∷◌, length, map, min, fold, Option, None, Some, refl, sym, ap, ◌∙◌, arith}
 use Rattle.std.proofs.lemmas.List.{length-map}
 use Rattle.pack_model.specs.Problem.{Parts}
 use Rattle.class_frame.specs.Frame.{least}
 use Rattle.cert_text.specs.Parts.{CertParts}
 use Rattle.bandwidth_bound.specs.Lemmas.{values_of}
 use Rattle.bandwidth_bound.specs.Prices.{lower8_of}
-use Rattle.bandwidth_bound.specs.Rule.{least_open, lower_of, open_of}
+use Rattle.bandwidth_bound.specs.Rule.{lower_of, open_of}
 use Rattle.cert_check.specs.Nodes.{lowered}
 use Rattle.cert_check.specs.Taken.{one_more}
 use Rattle.cert_check.specs.Trees.{lower_with}
@@ -59,7 +59,8 @@ lowered_by o (x ∷ xs) = ap (λ p. lowered o (one_more p)) (lowered_some x xs) 
     by None = sym (lowered_some x xs)
     by (Some n) =
         let turn : min n (fold min x xs) ≡ min (fold min x xs) n = omega arith in
-        ap Some turn ∙ ap (λ p. lowered p (n ∷ [])) (sym (lowered_some x xs)) ∙ lowered_swap None (x ∷ xs) (n ∷ [])
+        ap Some turn ∙ ap (λ p. lowered p (n ∷ [])) (sym (lowered_some x xs))
+        ∙ lowered_swap None (x ∷ xs) (n ∷ [])
 
 -- lists with the same least have both some numbers, and that one
 pub same_least : (xs ys : List ℕ) → lowered None xs ≡ lowered None ys → 1 ≤ length xs

@@ -4,7 +4,6 @@ use Rattle.std.specs.List.{flat_map}
 use Rattle.pack_model.specs.Problem.{Parts}
 use Rattle.grouping_tree.specs.Grouped.{labels_of}
 use Rattle.cert_text.specs.Trees.{Plain}
-use Rattle.response_test.specs.declared.evidence.Evidence.{Evidence}
 use Rattle.bandwidth_bound.specs.Prices.{lower8_of}
 use Rattle.bandwidth_bound.specs.Trees.{Goal, TreeStands, open_places}
 use Rattle.cert_check.specs.declared.cert_walk.CertWalk.{CertWalk}
@@ -15,8 +14,8 @@ use Rattle.cert_check.specs.Said.{Said, TreeSaid, said_by}
 use Rattle.cert_check.specs.Taken.{goal_said, load_in}
 use Rattle.cert_check.specs.Walk.{goal_of, values_in, values_used}
 
--- A hole: what the tree that it is in is to show, the values of lemmas that bounds use there, its place, and the
--- tree in whose place it stands.
+-- A hole: what the tree that it is in is to show, the values of lemmas that bounds use there, its place, and
+-- the tree in whose place it stands.
 pub record Hole : Type 0 where
   pub aim : Aim
   pub values : List ℕ
@@ -71,7 +70,8 @@ HolesStand problem walk entries = All (HoleStands problem) (holes_of problem wal
 
 -- the bounds at the open leaves of a hole's tree, where it stands in the main tree
 abbrev pub bounds_over : Parts → Option ℕ → Hole → List ℕ
-bounds_over problem None h = map (lower8_of problem h.values problem.items) (open_places problem.items h.place h.tree)
+bounds_over problem None h =
+    map (lower8_of problem h.values problem.items) (open_places problem.items h.place h.tree)
 bounds_over problem (Some sender) h = []
 
 abbrev pub bounds_in_hole : Parts → Hole → List ℕ

@@ -15,7 +15,7 @@ use Rattle.cert_check.specs.declared.fault.CheckFault.TheVariants as fault
 use Rattle.cert_check.specs.declared.walk.Aim.{Aim}
 use Rattle.cert_check.specs.Accept.{IsFound, judged_of}
 use Rattle.cert_check.specs.Entries.{Entry, as_event, as_hole, in_full}
-use Rattle.cert_check.specs.Holes.{Hole, HolesStand, hole_here, holes_of, least_in_holes, told_holes}
+use Rattle.cert_check.specs.Holes.{Hole, HolesStand, hole_here, holes_of, least_in_holes}
 use Rattle.cert_check.specs.Said.{lemma_aim, main_aim, said_by}
 use Rattle.cert_check.specs.Taken.{AllStandSaid, HasOwnParts, Taken, falls, load_in}
 use Rattle.cert_check.specs.Told.{IsFoundOf}
@@ -90,9 +90,9 @@ abbrev pub IsFoundHolding : Parts → List MatrixRow → CertParts → Result Ve
 IsFoundHolding problem rows cert answer =
     IsFound problem rows cert answer × OnOk answer (Holds (judged_of problem rows cert))
 
--- What was found of a certificate with holes is what is found of it in full: where the walk failed; where all holes
--- stand, and the bound that was given is the least in those of the main tree; and where some hole doesn't stand,
--- but for the tree part.
+-- What was found of a certificate with holes is what is found of it in full: where the walk failed; where all
+-- holes stand, and the bound that was given is the least in those of the main tree; and where some hole doesn't
+-- stand, but for the tree part.
 pub record IsFoundInFull (problem : Parts) (rows : List MatrixRow) (walk : CertWalk) (entries : List Entry)
     (cert : CertParts) (lower : Option ℕ) (answer : Result Verdict CheckFault) : Type 0 where
   pub failed : falls walk ≡ true → IsFoundHolding problem rows cert answer

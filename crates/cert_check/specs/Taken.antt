@@ -182,8 +182,8 @@ abbrev pub one_more : Option ℕ → List ℕ
 one_more None = []
 one_more (Some bound) = bound ∷ []
 
--- the answer is the lesser of the least bound at the open leaves, with one more where it is given, and of 8 times
--- the best, unless something of the trees doesn't stand, or no leaf is open
+-- the answer is the lesser of the least bound at the open leaves, with one more where it is given, and of 8
+-- times the best, unless something of the trees doesn't stand, or no leaf is open
 abbrev pub IsOpen : CertWalk → Option ℕ → Option ℕ → Result Verdict CheckFault → Type 0
 IsOpen walk lower best (Ok answer) =
     (falls walk ≡ false) × ((least : ℕ) × (lowered walk.walk.least (one_more lower) ≡ Some least)

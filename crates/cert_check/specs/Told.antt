@@ -1,6 +1,6 @@
--- What is found of what was told of a certificate, with holes among it: each counts as a tree that stands at its
--- place and has no open leaf.
-use Rattle.std.specs.Prelude.{◌≡◌, ◌≤◌, ⊤, ℕ, List, [], ◌∷◌, ◌++◌, length, Option, Result, Ok, Err, unwrap_or}
+-- What is found of what was told of a certificate, with holes among it: each counts as a tree that stands at
+-- its place and has no open leaf.
+use Rattle.std.specs.Prelude.{◌≤◌, ⊤, ℕ, List, [], ◌∷◌, ◌++◌, length, Option, Result, Ok, Err, unwrap_or}
 use Rattle.pack_model.specs.Problem.{Parts}
 use Rattle.class_frame.specs.Frame.{least}
 use Rattle.matrix_rows.specs.declared.matrix.MatrixRow.{MatrixRow}
@@ -45,9 +45,10 @@ abbrev pub IsVerdictTold : Parts → Option ℕ → Said → Option ℕ → Resu
 IsVerdictTold problem best s lower answer =
     IsVerdict (TreesOfTold s.kind problem s lower) (verdict_told s.kind problem best s lower) answer
 
--- the rule holds with the verdict, or a part of it fails first, where the main tree has one more open leaf with
--- the bound that may be given
-abbrev pub IsFoundTold : Parts → List MatrixRow → Option ℕ → Said → Option ℕ → Result Verdict CheckFault → Type 0
+-- the rule holds with the verdict, or a part of it fails first, where the main tree has one more open leaf
+-- with the bound that may be given
+abbrev pub IsFoundTold : Parts → List MatrixRow → Option ℕ → Said → Option ℕ → Result Verdict CheckFault
+    → Type 0
 IsFoundTold problem rows best s lower (Ok shown) =
     MatrixOfKind s.kind problem rows × TimingOfKind s.kind problem rows s.lines
     × IsVerdictTold problem best s lower (Ok shown)
@@ -63,4 +64,5 @@ IsFoundTold problem rows best s lower (Err fault.Memory) = ⊥
 abbrev pub IsFoundOf : Parts → List MatrixRow → CertWalk → List Entry → Option ℕ → Result Verdict CheckFault
     → Type 0
 IsFoundOf problem rows walk entries lower answer =
-    IsFoundTold problem rows (load_in walk.placing) (said_by problem (load_in walk.placing) entries) lower answer
+    IsFoundTold problem rows (load_in walk.placing) (said_by problem (load_in walk.placing) entries) lower
+    answer

@@ -3,13 +3,12 @@ ghost use Rattle.std.specs.Prelude.{◌≡◌, ◌<◌, ◌++◌, ◌∷◌, [],
 ghost use Rattle.pack_model.specs.Problem.{Parts};
 ghost use Rattle.matrix_rows.specs.declared.matrix.MatrixRow.{MatrixRow};
 ghost use Rattle.cert_text.specs.CertEvents.{cert_events};
-ghost use Rattle.cert_text.specs.Parts.{CertOf, CertParts, unmark_cert};
+ghost use Rattle.cert_text.specs.Parts.{CertOf, unmark_cert};
 ghost use Rattle.cert_text.specs.PlainTree.{plain_of};
 ghost use Rattle.cert_text.specs.Trees.{Marked, Plain};
 ghost use Rattle.grouping_tree.specs.Grouped.{items_in, labels_of};
 ghost use Rattle.grouping_tree.specs.Partial.{IsPartial};
 ghost use Rattle.bandwidth_bound.specs.Follows.{Holds};
-ghost use Rattle.bandwidth_bound.specs.Goals.{eighths};
 ghost use Rattle.bandwidth_bound.specs.Rule.{MatrixOfKind, TimingOfKind};
 ghost use Rattle.cert_check.specs.Accept.{IsFound, judged_of};
 ghost use Rattle.cert_check.specs.Entries.{Entry, as_event, as_hole};

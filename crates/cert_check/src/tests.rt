@@ -108,7 +108,25 @@ fn lemmas_bound_what_senders_load(rt: HostRuntime) {
     assert_eq!(rt; answer, Err(CheckFault::RejectedTree));
 }
 
-/// What a walk over a problem and the text of a matrix took of some events.
+/// Tells a walk events.
+fn tell(walk: &mut CertWalk, problem: &Problem, events: &[Event])
+    requires { HasTaken walk.old problem.now }
+    ensures { HasTaken walk.new problem.now }
+{
+    for event in events {
+        walk.take(problem, event);
+    }
+}
+
+/// Passes over a tree.
+fn pass(walk: &mut CertWalk, problem: &Problem)
+    requires { HasTaken walk.old problem.now }
+    ensures { HasTaken walk.new problem.now }
+{
+    walk.pass_over(problem);
+}
+
+/// A walk over a problem and the text of a matrix that was told some events.
 fn walk_of(
     rt: &impl Abort,
     alloc: Global,
@@ -120,9 +138,7 @@ fn walk_of(
 {
     let matrix = read_matrix(alloc, matrix).expect(rt, "a matrix");
     let mut walk = CertWalk::new(alloc, problem, &matrix).expect(rt, "memory");
-    for event in events {
-        walk.take(problem, event);
-    }
+    tell(&mut walk, problem, events);
     walk
 }
 
@@ -150,11 +166,11 @@ fn a_hole_is_a_tree_at_its_place(rt: HostRuntime) {
     assert_eq!(rt; walk.best(), None);
     assert_eq!(rt; walk.lemma(), None);
     assert!(rt; place_is(&rt, &walk, &problem, &[0, 0]));
-    walk.pass_over(&problem);
+    pass(&mut walk, &problem);
     assert!(rt; place_is(&rt, &walk, &problem, &[0, 1]));
-    walk.pass_over(&problem);
+    pass(&mut walk, &problem);
     assert_eq!(rt; walk.verdict(&problem), Ok(Verdict::NoSolution));
-    walk.pass_over(&problem);
+    pass(&mut walk, &problem);
     assert!(rt; walk.failed());
     assert_eq!(rt;
         walk.verdict_joined(&problem, None),
@@ -179,11 +195,10 @@ fn a_bound_comes_back(rt: HostRuntime) {
     let mut walk = walk_of(&rt, rt.alloc(), &problem, NO_ROWS, &events);
     assert_eq!(rt; walk.lemma(), Some(0));
     assert_eq!(rt; walk.lemma_values(), [56_000, 0].as_slice());
-    walk.pass_over(&problem);
-    walk.take(&problem, &lemma_of(1));
-    walk.pass_over(&problem);
-    walk.take(&problem, &Event::Main);
-    walk.take(&problem, &Event::OpenLeaf);
+    pass(&mut walk, &problem);
+    tell(&mut walk, &problem, &[lemma_of(1)]);
+    pass(&mut walk, &problem);
+    tell(&mut walk, &problem, &[Event::Main, Event::OpenLeaf]);
     let less = Verdict::Between {
         best: None,
         lower: 111_999,

@@ -1,5 +1,5 @@
 //! The walk over the nodes of trees.
-ghost use Rattle.std.specs.Prelude.{◌≡◌, ◌<◌, ◌∷◌, [], ℕ, ◌↔◌, IfOk, IfSome, IsTrue, None, Some, length, replicate, slice_set};
+ghost use Rattle.std.specs.Prelude.{◌≡◌, ◌<◌, ◌∷◌, [], ◌↔◌, IfOk, IfSome, IsTrue, None, Some, length, replicate, slice_set};
 ghost use Rattle.cert_text.specs.Trees.{Plain};
 ghost use Rattle.bandwidth_bound.specs.Goals.{ClassesFail};
 ghost use Rattle.bandwidth_bound.specs.Prices.{lower8_of};

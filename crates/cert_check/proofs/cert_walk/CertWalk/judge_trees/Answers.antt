@@ -1,4 +1,4 @@
-use Rattle.std.proofs.Common.{Ok, ap, refl, sym, subst, ◌∙◌}
+use Rattle.std.proofs.Common.{Ok, ap, refl, subst, ◌∙◌}
 use Rattle.std.specs.Prelude.{unwrap_or}
 use Rattle.cert_text.specs.declared.parts.Kind.TheVariants.{KindPlaced, KindTimed, KindBetween, KindBest, KindNoSolution}
 use Rattle.bandwidth_bound.specs.declared.verdict.Verdict.TheVariants as verdict

@@ -1,4 +1,4 @@
-use Rattle.std.proofs.Common.{ℕ, ◌≡◌, ◌<◌, length, ap, subst, sym, ◌∙◌, Option, Some, None}
+use Rattle.std.proofs.Common.{ℕ, ◌<◌, length, ap, subst, sym, ◌∙◌, Option, Some, None}
 use Rattle.std.specs.Prelude.{IfSome}
 use Rattle.pack_model.specs.Problem.{Parts}
 use Rattle.cert_check.specs.declared.walk.Aim.{Aim}

@@ -1,4 +1,4 @@
-use Rattle.std.proofs.Common.{ℕ, List, subst, sym}
+use Rattle.std.proofs.Common.{subst, sym}
 use Rattle.grouping_tree.specs.Grouped.{items_in, labels_of}
 use Rattle.grouping_tree.specs.Partial.{IsPartial}
 use Rattle.cert_check.proofs.Nexts.{range_is}

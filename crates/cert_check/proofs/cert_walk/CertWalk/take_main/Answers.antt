@@ -1,9 +1,7 @@
-use Rattle.std.proofs.Common.{None, ap, refl, subst, sym, ◌∙◌}
+use Rattle.std.proofs.Common.{None, ap, refl, sym, ◌∙◌}
 use Rattle.bandwidth_bound.specs.Goals.{eighths}
 use Rattle.cert_check.specs.Said.{main_aim, may_leave_of}
 use Rattle.cert_check.specs.Taken.{load_in}
-use Rattle.cert_check.specs.Trees.{HasRoom}
-use Rattle.cert_check.proofs.Found.{has_room}
 use Rattle.cert_check.proofs.StoreLaws.{begun_stored, none_falls}
 use Rattle.cert_check.proofs.cert_walk.CertWalk.take_main.Goals as goal
 
