@@ -1,5 +1,5 @@
 -- Shards and the holes in whose place they stand.
-use Rattle.std.proofs.Common.{◌≡◌, ◌<◌, ℕ, List, [], ◌∷◌, ◌++◌, length, map, get_or, All, Option, None, Some, Ok, refl, sym, ap, subst, ◌∙◌, append_assoc, append-nil}
+use Rattle.std.proofs.Common.{◌≡◌, ℕ, List, [], ◌∷◌, ◌++◌, length, map, All, Option, None, Some, Ok, refl, sym, ap, subst, ◌∙◌, append_assoc, append-nil}
 use Rattle.std.specs.List.{AllByRecursion, flat_map}
 use Rattle.std.proofs.Math.Seq.{drop-append_seam}
 use Rattle.std.proofs.lemmas.Grind.{flat_map-append}
@@ -17,7 +17,6 @@ use Rattle.cert_check.specs.Joined.{IsAimed, aim_in}
 use Rattle.cert_check.specs.Nodes.{lowered}
 use Rattle.cert_check.specs.Walk.{goal_of, values_in}
 use Rattle.cert_check.proofs.Walks.{lowered_append}
-use Rattle.par_check.specs.declared.shard.Goal.{Goal}
 use Rattle.par_check.specs.declared.shard.Shard.{Shard}
 use Rattle.par_check.specs.Shards.{AreFound, IsShard, ShardStands, bounds_left, bounds_of_shard, goal_at, lesser}
 use Rattle.par_check.specs.ShardWalks.{KnowsHoles, goal_by, of_hole, of_shard}

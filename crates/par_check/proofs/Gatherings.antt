@@ -1,5 +1,5 @@
 -- What is gathered has the events that were taken.
-use Rattle.std.proofs.Common.{◌≡◌, ◌<◌, ◌+◌, ◌-◌, ℕ, suc, List, [], ◌∷◌, ◌++◌, length, map, refl, sym, ap, ◌∙◌, append_assoc, append-nil, arith, Vec, Global}
+use Rattle.std.proofs.Common.{◌≡◌, ◌<◌, ◌+◌, ◌-◌, ℕ, suc, List, [], ◌∷◌, ◌++◌, length, map, refl, sym, ap, ◌∙◌, append_assoc, arith, Vec, Global}
 use Rattle.std.specs.List.{flat_map}
 use Rattle.std.proofs.lemmas.List.{flat_map_more, length_push}
 use Rattle.cert_text.specs.declared.event.Event.{Event}
@@ -8,7 +8,7 @@ use Rattle.cert_text.specs.declared.parts.Tree.{Tree}
 use Rattle.cert_text.specs.declared.parts.Tree.TheVariants.{Bound, Fail, Inner, Left}
 use Rattle.cert_text.specs.CertEvents.{tree_events, trees_events}
 use Rattle.cert_text.specs.PlainTree.{onto, plain_of}
-use Rattle.cert_text.specs.Trees.{Markeds, Plain, count, inner, none}
+use Rattle.cert_text.specs.Trees.{count, none}
 use Rattle.cert_text.proofs.Trees.{plain-Bound, plain-Fail, plain-Inner, plain-Left}
 use Rattle.par_check.specs.declared.gathering.OpenNode.{OpenNode}
 use Rattle.par_check.specs.Gathered.{bare, bare_all, bare_of, node_events, open_events}

@@ -1,6 +1,5 @@
 -- After a mark comes a tree without marks.
-use Rattle.std.specs.Prelude.{⊤}
-use Rattle.std.proofs.Common.{◌≡◌, ◌+◌, ◌⊎◌, inl, inr, ℕ, zero, suc, Bool, true, false, List, [], ◌∷◌, ◌++◌, length, map, Option, None, Some, refl, sym, ap, subst, ◌∙◌, append_assoc, append-nil, arith, zero-add}
+use Rattle.std.proofs.Common.{◌≡◌, ◌+◌, ◌⊎◌, inl, inr, ℕ, zero, suc, Bool, true, false, List, [], ◌∷◌, ◌++◌, length, map, Option, None, Some, refl, sym, ap, subst, ◌∙◌, append_assoc, arith, zero-add}
 use Rattle.std.specs.List.{AllByRecursion, flat_map}
 use Rattle.cert_text.specs.declared.event.Event.{Event}
 use Rattle.cert_text.specs.declared.event.Event.TheVariants as event
@@ -206,7 +205,7 @@ open_lack (node ∷ nodes) n =
     let here : List Event = flat_map (λ t. tree_events (bare_of t)) node.subtrees.items in
     let rest = open_lack nodes (node.lacking + n) in
     let next : (length node.subtrees.items + (node.lacking + 1)) + n
-        ≡ length node.subtrees.items + suc (node.lacking + n) = omega arith in (
+    ≡ length node.subtrees.items + suc (node.lacking + n) = omega arith in (
       rest.0,
       ap (λ k. lacking k (here ++ open_events nodes)) next
           ∙ subtrees_less node.subtrees.items (suc (node.lacking + n)) (open_events nodes) ∙ rest.1,

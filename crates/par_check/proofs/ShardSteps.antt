@@ -21,7 +21,7 @@ use Rattle.cert_check.specs.declared.fault.CheckFault.{CheckFault}
 use Rattle.cert_check.specs.declared.fault.CheckFault.TheVariants as fault
 use Rattle.cert_check.specs.Entries.{Entry, as_event, as_hole, in_full}
 use Rattle.cert_check.specs.Nodes.{lowered}
-use Rattle.cert_check.specs.Holes.{Hole, HoleStands, HolesStand, bounds_in_hole, hole_here, holes_in, holes_of, least_in_holes}
+use Rattle.cert_check.specs.Holes.{Hole, HoleStands, HolesStand, bounds_in_hole, hole_here, holes_in, holes_of}
 use Rattle.cert_check.specs.Joined.{IsAimed, IsFoundHolding, IsFoundInFull, denied}
 use Rattle.cert_check.specs.Said.{said_by}
 use Rattle.cert_check.specs.Taken.{AllStandSaid, HasOwnParts, Taken, falls, load_in}
@@ -223,9 +223,9 @@ module _ (problem : Parts) (rows : List MatrixRow) where
     pub next_of_tree : (e : Event) → BeginsEvents (events ++ e ∷ []) → IsOfTree e
     next_of_tree e begins =
         let on = goes_on begins.marked (in_full front) (e ∷ begins.rest) part.nodes.items begins.in_range.stands
-            (begins.begins ∙ append_assoc events (e ∷ []) begins.rest
-            ∙ ap (λ es. es ++ e ∷ begins.rest) marked_now
-            ∙ append_assoc (in_full front) (event.ShardMark ∷ opened) (e ∷ begins.rest)) in
+        (begins.begins ∙ append_assoc events (e ∷ []) begins.rest
+        ∙ ap (λ es. es ++ e ∷ begins.rest) marked_now
+        ∙ append_assoc (in_full front) (event.ShardMark ∷ opened) (e ∷ begins.rest)) in
         let is : e ∷ begins.rest ≡ on.next ∷ on.more = on.is in
         let same : on.next ≡ e = cc in
         subst IsOfTree same on.of_tree

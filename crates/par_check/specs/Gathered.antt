@@ -1,5 +1,5 @@
 -- The events of a tree without marks, and of a part of one.
-use Rattle.std.specs.Prelude.{◌≡◌, ⊤, ℕ, ◌+◌, List, [], ◌∷◌, ◌++◌, length, Result, IfOk}
+use Rattle.std.specs.Prelude.{◌≡◌, ⊤, ◌+◌, List, ◌∷◌, ◌++◌, length, Result, IfOk}
 use Rattle.std.specs.List.{flat_map}
 use Rattle.pack_model.specs.declared.memory.Memory.{Memory}
 use Rattle.cert_text.specs.declared.event.Event.{Event}

@@ -113,7 +113,7 @@ returns-in_err-shown-clause-some g c =
       s.bytes,
       denied_some s c.args.problem.now c.args.matrix.now (sym c.loop-feed-test.ensures)
           (Err c.in_err-shown.field-0.0) (λ marked parts took. (e c.args.matrix.now marked parts took).0)
-    (λ marked parts took. (e c.args.matrix.now marked parts took).1)
+          (λ marked parts took. (e c.args.matrix.now marked parts took).1)
           c.in_err-shown.field-0.0 refl,
     )
 
@@ -140,5 +140,5 @@ returns-clause-some g c =
       s.bytes,
       shown_some s c.args.problem.now c.args.matrix.now (sym c.loop-feed-test.ensures) (Ok c.in_ok-shown.shown)
           (λ marked parts took. (e c.args.matrix.now marked parts took).0)
-    (λ marked parts took. (e c.args.matrix.now marked parts took).1) c.in_ok-shown.shown refl,
+          (λ marked parts took. (e c.args.matrix.now marked parts took).1) c.in_ok-shown.shown refl,
     )

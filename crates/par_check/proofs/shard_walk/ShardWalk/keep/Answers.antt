@@ -1,4 +1,4 @@
-use Rattle.std.proofs.Common.{◌≡◌, ◌∙◌, refl}
+use Rattle.std.proofs.Common.{◌∙◌, refl}
 use Rattle.cert_check.specs.Taken.{HasStored}
 use Rattle.par_check.specs.Gathered.{bare_of}
 use Rattle.par_check.proofs.ShardSteps.{keep_more, shard_legal}

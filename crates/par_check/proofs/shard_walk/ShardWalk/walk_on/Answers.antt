@@ -12,7 +12,7 @@ pub returns-then-not-has_failed : goal.returns-then-not-has_failed
 returns-then-not-has_failed c = λ rows events s begins.
     let is : c.args.event.now ≡ event.ShardMark =
     elim c.match-matches.branch [
-      in-ShardMark w ↦ w.in-ShardMark.is
+      | in-ShardMark w ↦ w.in-ShardMark.is
       | in_default w ↦ absurd (true≢false (sym c.if-matches.true ∙ w.matches-is))
     ] in
     let well =
