@@ -1,12 +1,12 @@
 //! Shards of a small problem.
-ghost use Rattle.std.specs.Prelude.{◌≡◌, ◌<◌, ◌*◌, ◌^◌, All, length};
+ghost use Rattle.std.specs.Prelude.{◌≡◌, ◌≤◌, ◌<◌, ◌*◌, ◌^◌, All, length};
 ghost use Rattle.grouping_tree.specs.Partial.{IsPartial};
 ghost use Rattle.pack_model.specs.Signal.{SignalStands};
 ghost use Rattle.cert_check.specs.Trees.{HasRoom};
 ghost use Rattle.par_check.specs.Shards.{IsGoal, IsShard};
 
 use crate::{Goal, Joined, Shard, check_feed_par, check_shards};
-use cert_check::{CheckFault, Verdict};
+use cert_check::{CheckFault, FeedCheck, Verdict};
 use cert_text::{Kind, Tree};
 use grouping_tree::Partial;
 use matrix_text::read_matrix;
@@ -15,6 +15,7 @@ use pack_model::{Labels, Name, Network, Problem, Signal, Values, problem_of};
 use std::alloc::Global;
 use std::process::Abort;
 use std::sync::atomic::{AtomicU64, Ordering};
+use std::thread::Threads;
 
 /// A gate that adds up the numbers of the shards that entered.
 #[derive(Drop)]
@@ -46,6 +47,11 @@ fn signal(rt: &impl Abort, alloc: Global, name: &[u8], sender: &[u8]) -> Signal
 /// The problem of two such signals of two senders. Each alone is a frame of 7000 ticks, and so often is its period
 /// in the common one of 10 ms: 56000 eighths.
 fn two_senders(rt: &impl Abort, alloc: Global) -> Problem {
+    two_signals(rt, alloc, b"ECU2")
+}
+
+/// The problem of two such signals, the first of ECU1.
+fn two_signals(rt: &impl Abort, alloc: Global, sender: &[u8]) -> Problem {
     let network = Network {
         ticks_per_us: 80,
         nominal_ticks: 160,
@@ -53,7 +59,7 @@ fn two_senders(rt: &impl Abort, alloc: Global) -> Problem {
         first_id: 256,
     };
     let first = signal(rt, alloc, b"S1", b"ECU1");
-    let second = signal(rt, alloc, b"S2", b"ECU2");
+    let second = signal(rt, alloc, b"S2", sender);
     let signals = Vec::from_array(alloc, [first, second]).expect(rt, "memory");
     problem_of(alloc, network, signals).expect(rt, "a problem")
 }
@@ -169,43 +175,46 @@ fn shards_cross(rt: HostRuntime) {
     crosses(&main_shard(&rt, rt.alloc(), &problem, Tree::Bound));
 }
 
-/// The problem of two signals of one sender in one frame of two bytes, which takes 7400 ticks; its certificate has
-/// the whole main tree as a shard.
+/// The matrix of two signals of one sender in one frame of two bytes, which takes 7400 ticks.
+const ONE_FRAME: &[u8] = b"id,sender,size,ticks,header,pdu,at,signal,start,bits\n\
+    256,ECU1,2,7400,none,,0,S1,0,8\n\
+    256,ECU1,2,7400,none,,0,S2,8,8\n";
+
+/// Its certificate, of which the whole main tree is marked.
+const MARKED: &[u8] =
+    b"canpack certificate 1\nkind best\nframe 7400 0\nmain\nshard\ni 1\nb\njoin\nend\n";
+
+/// What so many workers find of it.
+fn found_by<R: Threads + Abort + Sync>(
+    rt: &R,
+    alloc: Global,
+    problem: &Problem,
+    workers: u32,
+) -> Result<Verdict, FeedCheck>
+    requires some { 1 ≤ workers }
+    requires few { workers ≤ 64 }
+{
+    let matrix = read_matrix(alloc, ONE_FRAME).expect(rt, "a matrix");
+    let mut folder = SteadyFolder::new(alloc);
+    folder.put("CERT", MARKED).expect(rt, "memory");
+    check_feed_par(
+        rt,
+        alloc,
+        problem,
+        &matrix,
+        &mut folder,
+        "CERT",
+        workers,
+        &OpenGate,
+    )
+}
+
+/// One frame of two bytes is best, for every number of workers.
 #[test]
 fn a_marked_tree_is_judged(rt: HostRuntime) {
-    let network = Network {
-        ticks_per_us: 80,
-        nominal_ticks: 160,
-        data_ticks: 40,
-        first_id: 256,
-    };
-    let first = signal(&rt, rt.alloc(), b"S1", b"ECU1");
-    let second = signal(&rt, rt.alloc(), b"S2", b"ECU1");
-    let signals = Vec::from_array(rt.alloc(), [first, second]).expect(&rt, "memory");
-    let problem = problem_of(rt.alloc(), network, signals).expect(&rt, "a problem");
-    let matrix = read_matrix(
-        rt.alloc(),
-        b"id,sender,size,ticks,header,pdu,at,signal,start,bits\n256,ECU1,2,7400,none,,0,S1,0,8\n256,ECU1,2,7400,none,,0,S2,8,8\n",
-    )
-    .expect(&rt, "a matrix");
-    let mut folder = SteadyFolder::new(rt.alloc());
-    folder
-        .put(
-            "CERT",
-            b"canpack certificate 1\nkind best\nframe 7400 0\nmain\nshard\ni 1\nb\njoin\nend\n",
-        )
-        .expect(&rt, "memory");
-    for workers in [1, 2, 64] {
-        let answer = check_feed_par(
-            &rt,
-            rt.alloc(),
-            &problem,
-            &matrix,
-            &mut folder,
-            "CERT",
-            workers,
-            &OpenGate,
-        );
-        assert_eq!(rt; answer, Ok(Verdict::Best { load: 7400 }));
-    }
+    let problem = two_signals(&rt, rt.alloc(), b"ECU1");
+    let best = Ok(Verdict::Best { load: 7400 });
+    assert_eq!(rt; found_by(&rt, rt.alloc(), &problem, 1), best);
+    assert_eq!(rt; found_by(&rt, rt.alloc(), &problem, 2), best);
+    assert_eq!(rt; found_by(&rt, rt.alloc(), &problem, 64), best);
 }
