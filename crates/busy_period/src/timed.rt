@@ -26,6 +26,10 @@ impl Timed {
         requires time { time ≤ 2 ^ 46 }
         ensures { result ≡ instances_of self time }
     {
-        (time + self.jitter).div_ceil(self.period)
+        let window = time + self.jitter;
+        if window <= self.period {
+            return window.min(1);
+        }
+        window.div_ceil(self.period)
     }
 }
