@@ -4,7 +4,6 @@ pub mod Earlier
 pub mod Fills
 pub mod Fronts
 pub mod Joins
-pub mod Lasts
 pub mod Loads
 pub mod Options
 pub mod Puts

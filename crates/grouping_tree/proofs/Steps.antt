@@ -3,7 +3,7 @@ use Rattle.std.proofs.Common.{◌≡◌, ℕ, ◌+◌, ◌<◌, ◌≤◌, ◌�
 use Rattle.std.specs.List.{zip}
 use Rattle.std.proofs.lemmas.Bool.{cases_eq, eq-eqb, ne_eqb}
 use Rattle.std.proofs.lemmas.Grind.{get_or-set_at}
-use Rattle.std.proofs.lemmas.List.{take_more, take_more_set, get_or-set_other, get_or-take, get_or-drop, length-drop}
+use Rattle.std.proofs.lemmas.List.{take_more, take_more_set, take-set, take-set-le, get_or-set_other, get_or-take, get_or-drop, length-drop}
 use Rattle.pack_model.specs.declared.item.Item.{Item}
 use Rattle.class_frame.specs.Grouping.{class_of}
 use Rattle.class_frame.proofs.GroupingLaws.{class_of-cons}
@@ -75,6 +75,36 @@ label_back {U} P range labels table n label value some low here are is k d lt = 
     by (inr other) =
         subst (P (class_of k (take n labels) range)) (sym (get_or-set_other table label k value d other))
         (subst (λ items. P items (get_or table k d)) (ap (λ ls. class_of k ls range) step ∙ class-stays k (take n labels) label range (ne_eqb label k (λ e. other (sym e)))) (are k d lt))
+
+-- what a label that is put leaves of a table by item, of what was before each got its label
+pub before_put : {U : Type 0} (P : List ℕ → ℕ → U → Type 0) (labels : List ℕ) (table : List U) (count label : ℕ) (value : U)
+    → count < length labels → count < length table → P (take count labels) label value
+    → ((i : ℕ) (d : U) → i < count → P (take i labels) (get_or labels i 0) (get_or table i d))
+    → (i : ℕ) (d : U) → i < count + 1
+    → P (take i (set labels count label)) (get_or (set labels count label) i 0) (get_or (set table count value) i d)
+before_put {U} P labels table count label value some room is are i d lt = by (cases_eq i count)
+  where
+    move : (ls ms : List ℕ) (k l : ℕ) (u v : U) → ls ≡ ms → k ≡ l → u ≡ v → P ms l v → P ls k u
+    move ls ms k l u v front number at is =
+        subst (λ xs. P xs k u) (sym front) (subst (λ m. P ms m u) (sym number) (subst (P ms l) (sym at) is))
+
+    by : (i ≡ count) ⊎ (i ≡ count → ⊥)
+        → P (take i (set labels count label)) (get_or (set labels count label) i 0) (get_or (set table count value) i d)
+    by (inl same) =
+        move (take i (set labels count label)) (take count labels) (get_or (set labels count label) i 0) label
+        (get_or (set table count value) i d) value
+        (ap (λ n. take n (set labels count label)) same ∙ take-set labels count label)
+        (get_or-set_at labels count i label 0 same some)
+        (get_or-set_at table count i value d same room)
+        is
+    by (inr other) =
+        let within : i < count = omega (arith, lt, other) in
+        move (take i (set labels count label)) (take i labels) (get_or (set labels count label) i 0) (get_or labels i 0)
+        (get_or (set table count value) i d) (get_or table i d)
+        (take-set-le i labels count label (omega (arith, within)))
+        (get_or-set_other labels count i label 0 other)
+        (get_or-set_other table count i value d other)
+        (are i d within)
 
 -- an item of the range
 pub range_at : {X : Type 0} (first room : ℕ) (xs : List X) (i : ℕ) (d : X) → i < room → get_or (take room (drop first xs)) i d ≡ get_or xs (first + i) d

@@ -1,7 +1,6 @@
 -- What belonging gives: room for the next label, small sums, and a signal for each used label.
-use Rattle.std.proofs.Common.{◌≡◌, ◌<◌, ◌≤◌, ◌+◌, ℕ, zero, suc, true, false, [], ◌∷◌, ◌++◌, List, length, take, drop, fold, get_or, min, nat_eq, nat_le, Some, All, sym, ap, subst, ◌∙◌, arith, length-append, length-take-le, refl}
+use Rattle.std.proofs.Common.{◌≡◌, ◌<◌, ◌≤◌, ◌+◌, ℕ, true, false, [], ◌∷◌, ◌++◌, List, length, take, drop, fold, get_or, min, nat_eq, nat_le, Some, All, sym, ap, subst, ◌∙◌, arith, length-append, length-take-le, refl}
 use Rattle.std.proofs.lemmas.Bool.{ne_eqb}
-use Rattle.std.proofs.lemmas.Grind.{get_or_default_zero}
 use Rattle.std.proofs.lemmas.List.{get_or-take}
 use Rattle.std.proofs.lemmas.List.Elements.{All-cons, All-nil, All-weaker}
 use Rattle.std.proofs.lemmas.List.Sorted.{IsPermutation-refl}
@@ -96,18 +95,6 @@ low_room problem p label b some low = omega (arith, low, some, classes_few probl
 pub put_room : (problem : Parts) (p : Partial) (label : ℕ) → Belongs problem p → IsPartial (range_of problem p) (labels_of p ++ label ∷ []) → (p.count < p.many) × (label ≤ classes_of (labels_of p))
 put_room problem p label b legal =
     (omega (arith, counted problem p b, long problem p b, legal.within, length-append (labels_of p) (label ∷ [])), next-low (range_of problem p) (labels_of p) label legal)
-
--- the class of a label got its last item among those with a label
-pub found_low : (problem : Parts) (p : Partial) (label last : ℕ) → Belongs problem p → label < room_of p
-    → last ≡ get_or p.last.items label last → last ≤ p.count
-found_low problem p label last b low at = by last refl
-  where
-    is : last ≡ get_or p.last.items label 0
-    is = at ∙ get_or_default_zero p.last.items label last (omega (arith, b.last_room, low))
-
-    by : (n : ℕ) → last ≡ n → last ≤ p.count
-    by zero e = omega (arith, e)
-    by (suc i) e = let before : i < p.count = (b.last label low i (sym is ∙ e ∙ (let one : suc i ≡ i + 1 = omega arith in one))).0 in omega (arith, before, e)
 
 -- the lengths of frames on a network are those on the same one
 pub same_lengths : (a b : Network) (lengths : List FrameLength) → a ≡ b

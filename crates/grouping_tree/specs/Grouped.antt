@@ -75,28 +75,20 @@ pub record IsFrameLength (network : Network) (bytes : ℕ) (long : FrameLength) 
   pub size : long.size ≡ unwrap_or (fd_size_of bytes) 0
   pub ticks : long.ticks ≡ worst_ticks_of network (unwrap_or (fd_size_of bytes) 0)
 
--- what is kept of a class
-abbrev pub IsKept : Parts → List Item → State → Type 0
-IsKept problem items state = IsClass problem items state.own
-
--- and of all classes: how many there are, how many there were when the sender in work began, the load and the slack
+-- what is kept of all classes: how many there are, how many there were when the sender in work began, the load and the slack
 pub record AreKept (problem : Parts) (range : List Item) (labels : List ℕ) (state : State) : Type 0 where
   pub classes : state.classes ≡ classes_of labels
   pub first : AreEarlier range labels state.first_label
   pub load : state.load ≡ load_of problem range labels
   pub slack : state.slack ≡ slack_at problem range labels
 
--- what is kept once the last of some labels is put: of its class, and of all
+-- what is kept of the class of a label and of all, with some labels put
 pub record IsState (problem : Parts) (range : List Item) (labels : List ℕ) (label : ℕ) (state : State)
     : Type 0 where
-  pub own : IsKept problem (class_of label labels range) state
+  pub own : IsClass problem (class_of label labels range) state.own
   pub all : AreKept problem range labels state
 
--- a number of items, none or one after an item with the label among the first so many
-abbrev pub IsLast : List ℕ → ℕ → ℕ → ℕ → Type 0
-IsLast labels count label last = (i : ℕ) → last ≡ i + 1 → (i < count) × (slice_index labels i ≡ label)
-
--- the problem stands, the range is there in it, has the sender's items and has room, the labels are a partial grouping of it, and what is kept is that of the labels: of all, and of those before each
+-- the problem stands, the range is there in it, has the sender's items and has room, the labels are a partial grouping of it, and what is kept is that of the labels: of all, and before each
 pub record Belongs (problem : Parts) (p : Partial) : Type 0 where
   pub stands : IsProblem problem
   pub network : problem.network ≡ p.network
@@ -108,8 +100,7 @@ pub record Belongs (problem : Parts) (p : Partial) : Type 0 where
   pub items_room : length p.items.items ≡ room_of p
   pub frames_room : length p.frames.items ≡ room_of p
   pub sizes_room : length p.lengths.items ≡ lengths_room
-  pub states_room : length p.states.items ≡ room_of p + 1
-  pub last_room : length p.last.items ≡ room_of p
+  pub held_room : length p.held.items ≡ room_of p
   pub before_room : length p.before.items ≡ room_of p
   pub legal : IsPartial (range_of problem p) (labels_of p)
   pub low : (i : ℕ) → i < p.count → slice_index p.labels.items i < room_of p
@@ -120,11 +111,8 @@ pub record Belongs (problem : Parts) (p : Partial) : Type 0 where
   pub items : AreEach problem (range_of problem p) p.items.items
   pub frames : (label : ℕ) (d : Timed) → label < room_of p → slice_index_or p.frames.items label d ≡ timed_of_items problem (items_with problem p label)
   pub lengths : (bytes : ℕ) (d : FrameLength) → bytes < lengths_room → IsFrameLength problem.network bytes (slice_index_or p.lengths.items bytes d)
-  pub kept : (label : ℕ) (d : State) → label < room_of p → IsKept problem (items_with problem p label) (slice_index_or p.states.items (slice_index p.last.items label) d)
-  pub last : (label : ℕ) → label < room_of p → IsLast p.labels.items p.count label (slice_index p.last.items label)
-  pub before : (i : ℕ) (d : State) → i < p.count → IsKept problem (class_of (slice_index p.labels.items i) (take i p.labels.items) (range_of problem p)) (slice_index_or p.states.items (slice_index p.before.items i) d)
-  pub last_before : (i : ℕ) → i < p.count → IsLast p.labels.items i (slice_index p.labels.items i) (slice_index p.before.items i)
-  pub all : (i : ℕ) (d : State) → i ≤ p.count → AreKept problem (range_of problem p) (take i p.labels.items) (slice_index_or p.states.items i d)
+  pub kept : (label : ℕ) (d : Class) → label < room_of p → IsClass problem (items_with problem p label) (slice_index_or p.held.items label d)
+  pub before : (i : ℕ) (d : State) → i < p.count → IsState problem (range_of problem p) (take i p.labels.items) (slice_index p.labels.items i) (slice_index_or p.before.items i d)
 
 -- an item is left, and this is what is kept of it as a class of its own
 pub record IsNext (problem : Parts) (p : Partial) (next : Class) : Type 0 where

@@ -1,14 +1,10 @@
 //! What is kept of classes.
-ghost use Rattle.std.specs.Prelude.{◌≡◌, ◌<◌, ℕ, List, [], length, slice_index, slice_index_or};
+ghost use Rattle.std.specs.Prelude.{◌≡◌, ◌<◌, ℕ, length, slice_index_or};
 ghost use Rattle.busy_period.specs.declared.timed.Timed.{Timed};
-ghost use Rattle.pack_model.specs.Network.{NetworkStands};
-ghost use Rattle.pack_model.specs.Problem.{Parts};
-ghost use Rattle.pack_model.specs.declared.item.Item.{Item};
-ghost use Rattle.grouping_tree.specs.Grouped.{AreKept, IsKept};
+ghost use Rattle.grouping_tree.specs.declared.class.Class.{Class};
 
 use crate::class::Class;
 use busy_period::Timed;
-use pack_model::Network;
 
 /// What all classes come to once the next item has a label.
 #[derive(Clone, Copy, Debug, PartialEq, Eq)]
@@ -46,14 +42,10 @@ pub(crate) struct State {
 }
 
 impl State {
-    /// Where no item has a label.
-    pub(crate) fn none(network: &Network) -> State
-        requires { NetworkStands network.now }
-        ensures kept { (problem : Parts) → problem.network ≡ network.now → IsKept problem [] result }
-        ensures all { (problem : Parts) (range : List Item) → AreKept problem range [] result }
-    {
+    /// Of a class, where no item has a label.
+    pub(crate) fn of(own: Class) -> State {
         State {
-            own: Class::none(network),
+            own,
             classes: 0,
             first_label: 0,
             load: 0,
@@ -62,18 +54,19 @@ impl State {
     }
 }
 
-/// Takes all items from all classes: `frame` is the frame of no items.
-pub(crate) fn clear(last: &mut Vec<usize>, frames: &mut Vec<Timed>, frame: Timed)
-    requires frames { length frames.old.items ≡ length last.old.items }
-    ensures last_room { length last.new.items ≡ length last.old.items }
-    ensures frames_room { length frames.new.items ≡ length last.old.items }
-    ensures last { (label : ℕ) → label < length last.old.items → slice_index last.new.items label ≡ 0 }
-    ensures frames { (label : ℕ) (d : Timed) → label < length last.old.items
-        → slice_index_or frames.new.items label d ≡ frame }
+/// Takes all items from all classes: `none` is what is kept of no items.
+pub(crate) fn clear(held: &mut Vec<Class>, frames: &mut Vec<Timed>, none: Class)
+    requires frames { length frames.old.items ≡ length held.old.items }
+    ensures held_room { length held.new.items ≡ length held.old.items }
+    ensures frames_room { length frames.new.items ≡ length held.old.items }
+    ensures held { (label : ℕ) (d : Class) → label < length held.old.items
+        → slice_index_or held.new.items label d ≡ none }
+    ensures frames { (label : ℕ) (d : Timed) → label < length held.old.items
+        → slice_index_or frames.new.items label d ≡ none.frame }
 {
-    let many = last.len();
+    let many = held.len();
     for label in 0..many {
-        last[label] = 0;
-        frames[label] = frame;
+        held[label] = none;
+        frames[label] = none.frame;
     }
 }

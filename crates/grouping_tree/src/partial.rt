@@ -10,7 +10,7 @@ ghost use Rattle.class_frame.specs.Frame.{timed_of_items, weight_of_items, size_
 ghost use Rattle.class_frame.specs.Grouping.{class_of, classes_of};
 ghost use Rattle.grouping_tree.specs.Class.{IsClass};
 ghost use Rattle.grouping_tree.specs.Partial.{IsPartial, keeps_legal, options_of};
-ghost use Rattle.grouping_tree.specs.Grouped.{AreEach, AreEarlier, Belongs, IsNext, IsKept, IsState, IsUsed, items_in, items_with, sender_of, labels_of, range_of, room_of, slack_at};
+ghost use Rattle.grouping_tree.specs.Grouped.{AreEach, AreEarlier, Belongs, IsNext, IsState, IsUsed, items_in, items_with, sender_of, labels_of, range_of, room_of, slack_at};
 ghost use Rattle.busy_period.specs.declared.timed.Timed.{Timed};
 ghost use Rattle.grouping_tree.specs.Slack.{sender_in_work, slack_in_work, slacks_of};
 ghost use Rattle.grouping_tree.specs.Walk.{options_from, places_below, places_left};
@@ -54,13 +54,10 @@ pub struct Partial {
     frames: Vec<Timed>,
     /// How long the frame of items of each number of bytes is.
     lengths: Vec<FrameLength>,
-    /// What is kept of the class of each item's label, and of all classes, once it got it; before these, what is
-    /// kept where no item has one.
-    states: Vec<State>,
-    /// After how many items the class of each label got its last one; 0 where it has none.
-    last: Vec<usize>,
-    /// What `last` had for each item's label before it got it.
-    before: Vec<usize>,
+    /// What is kept of the class of each label.
+    held: Vec<Class>,
+    /// What was kept of the class of each item's label, and of all classes, before it got it.
+    before: Vec<State>,
 }
 
 impl Partial {
@@ -99,8 +96,8 @@ impl Partial {
         ensures room { IfOk result (λ partial. room_of partial ≡ length (items_in problem.now.items sender)) }
     {
         let place = place_in(problem, sender);
-        let none = State::none(problem.network());
-        let mut items = vec![in alloc; none.own; place.many]?;
+        let none = Class::none(problem.network());
+        let mut items = vec![in alloc; none; place.many]?;
         write_alone(&mut items, problem, place);
         let mut lengths = vec![in alloc; FrameLength::none(); LENGTHS as usize]?;
         write_lengths(&mut lengths, problem.network());
@@ -117,11 +114,10 @@ impl Partial {
             slack: 0,
             labels: vec![in alloc; 0; place.many]?,
             items,
-            frames: vec![in alloc; none.own.frame; place.many]?,
+            frames: vec![in alloc; none.frame; place.many]?,
             lengths,
-            states: vec![in alloc; none; place.many + 1]?,
-            last: vec![in alloc; 0; place.many]?,
-            before: vec![in alloc; 0; place.many]?,
+            held: vec![in alloc; none; place.many]?,
+            before: vec![in alloc; State::of(none); place.many]?,
         })
     }
 
@@ -151,9 +147,8 @@ impl Partial {
         self.slack = 0;
         write_alone(&mut self.items, problem, place);
         write_lengths(&mut self.lengths, problem.network());
-        let none = State::none(problem.network());
-        clear(&mut self.last, &mut self.frames, none.own.frame);
-        self.states[0] = none;
+        let none = Class::none(problem.network());
+        clear(&mut self.held, &mut self.frames, none);
     }
 
     /// The number of the sender whose items the range has; none over all items.
@@ -273,17 +268,17 @@ impl Partial {
         ensures { (problem : Parts) → Belongs problem self.now → IsNext problem self.now next.now
             → result ≡ keeps_legal (range_of problem self.now) (labels_of self.now) label }
     {
-        self.kept_of(label).own.fill.may_join(next.fill)
+        self.kept_of(label).fill.may_join(next.fill)
     }
 
     /// What is kept of the class of a label.
-    fn kept_of(&self, label: u32) -> &State
+    fn kept_of(&self, label: u32) -> &Class
         requires belongs { (problem : Parts) × Belongs problem self.now }
         requires low { label < room_of self.now }
         ensures { (problem : Parts) → Belongs problem self.now
-            → IsKept problem (items_with problem self.now label) result.now }
+            → IsClass problem (items_with problem self.now label) result.now }
     {
-        &self.states[self.last[label as usize]]
+        &self.held[label as usize]
     }
 
     /// What is kept once the next item has a label, one that may be put next.
@@ -317,7 +312,7 @@ impl Partial {
         if label == self.classes {
             return *next;
         }
-        let before = &self.kept_of(label).own;
+        let before = self.kept_of(label);
         let fill = before.fill.join(next.fill);
         let long = self.lengths[fill.frame_bytes() as usize];
         before.join(next, fill, long, &self.network)
@@ -337,7 +332,7 @@ impl Partial {
             → IsClass problem (class_of label (labels_of self.now ++ label ∷ []) (range_of problem self.now)) own.now
             → result.slack ≡ slack_at problem (range_of problem self.now) (labels_of self.now ++ label ∷ []) }
     {
-        let before = &self.kept_of(label).own;
+        let before = self.kept_of(label);
         let other_loads = self.load - before.load();
         let other_slacks = self.slacks_beside(next) - before.slack();
         Ahead {
@@ -389,16 +384,21 @@ impl Partial {
     {
         let after = self.with_next(label);
         let place = label as usize;
+        self.before[self.count] = State {
+            own: self.held[place],
+            classes: self.classes,
+            first_label: self.first_label,
+            load: self.load,
+            slack: self.slack,
+        };
         self.labels[self.count] = label;
-        self.before[self.count] = self.last[place];
         self.count += 1;
-        self.last[place] = self.count;
+        self.held[place] = after.own;
         self.frames[place] = after.own.frame;
         self.classes = after.classes;
         self.first_label = after.first_label;
         self.load = after.load;
         self.slack = after.slack;
-        self.states[self.count] = after;
     }
 
     /// Takes the last label away.
@@ -413,14 +413,13 @@ impl Partial {
     {
         self.count -= 1;
         let place = self.labels[self.count] as usize;
-        let last = self.before[self.count];
-        self.last[place] = last;
-        self.frames[place] = self.states[last].own.frame;
-        let all = &self.states[self.count];
-        self.classes = all.classes;
-        self.first_label = all.first_label;
-        self.load = all.load;
-        self.slack = all.slack;
+        let before = &self.before[self.count];
+        self.held[place] = before.own;
+        self.frames[place] = before.own.frame;
+        self.classes = before.classes;
+        self.first_label = before.first_label;
+        self.load = before.load;
+        self.slack = before.slack;
     }
 
     /// What is kept of the class of a used label, for every problem to which the partial grouping belongs.
@@ -434,7 +433,7 @@ impl Partial {
         ensures size { (problem : Parts) → Belongs problem self.now
             → Some result.size ≡ size_of_items (items_with problem self.now label) }
     {
-        let kept = &self.kept_of(label).own;
+        let kept = self.kept_of(label);
         Kept {
             weight: kept.fill.weight,
             size: self.lengths[kept.fill.frame_bytes() as usize].size,

@@ -4,8 +4,8 @@ use Rattle.grouping_tree.specs.Grouped.{items_with, labels_of, range_of}
 use Rattle.grouping_tree.proofs.Used.{load_put, low_room, put_room, slack_put}
 use Rattle.grouping_tree.proofs.partial.Partial.all_with.Goals as goal
 
-pub kept_of-requires : goal.kept_of-requires
-kept_of-requires c =
+pub kept_of-before-requires : goal.kept_of-before-requires
+kept_of-before-requires c =
     let (problem, b, next, legal, own) = c.requires in
     let (some, low) = put_room problem c.args.self.now c.args.label b legal in
     record { belongs = (problem, b); low = low_room problem c.args.self.now c.args.label b some low }
@@ -15,7 +15,7 @@ overflow_sub-other_loads c =
     let (problem, b, next, legal, own) = c.requires in
     let p = c.args.self.now in
     let loads = load_put problem p c.args.label c.args.next.now b next (put_room problem p c.args.label b legal).1 in
-    omega (arith, loads.0, b.load, c.load.ensures problem (items_with problem p c.args.label) (c.kept_of.ensures problem b))
+    omega (arith, loads.0, b.load, c.load.ensures problem (items_with problem p c.args.label) (c.kept_of-before.ensures problem b))
 
 pub slacks_beside-requires : goal.slacks_beside-requires
 slacks_beside-requires c =
@@ -33,7 +33,7 @@ overflow_sub-other_slacks c =
       arith,
       slacks.0,
       c.slacks_beside.ensures problem b next,
-      c.slack.ensures problem (items_with problem p c.args.label) (c.kept_of.ensures problem b),
+      c.slack.ensures problem (items_with problem p c.args.label) (c.kept_of-before.ensures problem b),
     )
 
 pub overflow_add-result : goal.overflow_add-result
@@ -70,7 +70,7 @@ pub returns-clause-load : goal.returns-clause-load
 returns-clause-load c = λ problem b next legal own.
     let p = c.args.self.now in
     let loads = load_put problem p c.args.label c.args.next.now b next (put_room problem p c.args.label b legal).1 in
-    let old = c.load.ensures problem (items_with problem p c.args.label) (c.kept_of.ensures problem b) in
+    let old = c.load.ensures problem (items_with problem p c.args.label) (c.kept_of-before.ensures problem b) in
     let new = c.load-2.ensures problem (class_of c.args.label (labels_of p ++ c.args.label ∷ []) (range_of problem p)) own in
     omega (arith, loads.0, loads.3, b.load, old, new)
 
@@ -80,6 +80,6 @@ returns-clause-slack c = λ problem b next legal own.
     let slacks =
     slack_put problem p c.args.label c.args.next.now b next (put_room problem p c.args.label b legal).1
     (legal.classes c.args.label) in
-    let old = c.slack.ensures problem (items_with problem p c.args.label) (c.kept_of.ensures problem b) in
+    let old = c.slack.ensures problem (items_with problem p c.args.label) (c.kept_of-before.ensures problem b) in
     let new = c.slack-2.ensures problem (class_of c.args.label (labels_of p ++ c.args.label ∷ []) (range_of problem p)) own in
     omega (arith, slacks.0, slacks.3, c.slacks_beside.ensures problem b next, old, new)

@@ -7,8 +7,8 @@ use Rattle.grouping_tree.specs.declared.class.Fill.{Fill}
 use Rattle.grouping_tree.proofs.Used.{used_room, used_small}
 use Rattle.grouping_tree.proofs.partial.Partial.kept.Goals as goal
 
-pub kept_of-requires : goal.kept_of-requires
-kept_of-requires c =
+pub kept_of-kept-requires : goal.kept_of-kept-requires
+kept_of-kept-requires c =
     let (problem, b) = c.requires.belongs in
     record { belongs = (problem, b); low = used_room problem c.args.self.now c.args.label b c.requires.used }
 
@@ -18,7 +18,7 @@ frame_bytes-requires c =
     omega (
       arith,
       (used_small problem c.args.self.now c.args.label b).pdus,
-      ap (λ (f : Fill). f.pdus) (c.kept_of.ensures problem b).fill,
+      ap (λ (f : Fill). f.pdus) (c.kept_of-kept.ensures problem b).fill,
     )
 
 pub index-requires : goal.index-requires
@@ -30,21 +30,21 @@ index-requires c =
       arith,
       b.sizes_room,
       class.small,
-      c.frame_bytes.ensures problem items (c.kept_of.ensures problem b).fill class.one_kind,
+      c.frame_bytes.ensures problem items (c.kept_of-kept.ensures problem b).fill class.one_kind,
     )
 
 pub returns-clause-timed : goal.returns-clause-timed
-returns-clause-timed c = λ problem b. (c.kept_of.ensures problem b).frame
+returns-clause-timed c = λ problem b. (c.kept_of-kept.ensures problem b).frame
 
 pub returns-clause-weight : goal.returns-clause-weight
-returns-clause-weight c = λ problem b. ap (λ (f : Fill). f.weight) (c.kept_of.ensures problem b).fill
+returns-clause-weight c = λ problem b. ap (λ (f : Fill). f.weight) (c.kept_of-kept.ensures problem b).fill
 
 pub returns-clause-size : goal.returns-clause-size
 returns-clause-size c = λ problem b.
     let p = c.args.self.now in
     let items = items_with problem p c.args.label in
     let class = b.legal.classes c.args.label in
-    let bytes = c.frame_bytes.ensures problem items (c.kept_of.ensures problem b).fill class.one_kind in
+    let bytes = c.frame_bytes.ensures problem items (c.kept_of-kept.ensures problem b).fill class.one_kind in
     let (size, at) = fd_size_of-some (bytes_of_items items) class.small in
     let long =
     subst (IsFrameLength problem.network c.frame_bytes.result) (sym c.index.ensures)

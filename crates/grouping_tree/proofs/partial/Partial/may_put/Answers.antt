@@ -1,4 +1,4 @@
-use Rattle.std.proofs.Common.{◌≡◌, Bool, true, false, IsTrue, ◌++◌, ◌∷◌, [], refl, sym, ap, ◌∙◌, inl, inr}
+use Rattle.std.proofs.Common.{◌≡◌, Bool, true, false, IsTrue, ◌++◌, ◌∷◌, [], refl, ◌∙◌, inl, inr}
 use Rattle.class_frame.specs.Frame.{bytes_of_items}
 use Rattle.class_frame.specs.Grouping.{class_of}
 use Rattle.grouping_tree.specs.Grouped.{labels_of, range_of}
@@ -15,7 +15,7 @@ pub may_join-requires : goal.may_join-requires
 may_join-requires c =
     let (problem, b, is) = c.requires.next in
     let small =
-    next_small problem c.args.self.now c.args.label c.args.next.now c.kept_of.result.now.own.fill b is
+    next_small problem c.args.self.now c.args.label c.args.next.now c.kept_of.result.now.fill b is
     (c.kept_of.ensures problem b).fill in
     record { pdus = small.0; weight = small.1 }
 
@@ -28,7 +28,7 @@ returns c = λ problem b is.
     let p = c.args.self.now in
     let label = c.args.label in
     let next = c.args.next.now in
-    let before = c.kept_of.result.now.own.fill in
+    let before = c.kept_of.result.now.fill in
     let are = (c.kept_of.ensures problem b).fill in
     let items = class_of label (labels_of p ++ label ∷ []) (range_of problem p) in
     elim (alike_or_not before next.fill) [
