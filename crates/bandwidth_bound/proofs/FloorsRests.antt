@@ -1,5 +1,5 @@
 -- What is left after so many items placed, by what is left after one more.
-use Rattle.std.proofs.Common.{◌≡◌, ℕ, zero, suc, ◌+◌, ◌-◌, ◌*◌, ◌<◌, ◌≤◌, ◌^◌, ◌⊎◌, inl, inr, Bool, true, false, cond, List, [], ◌∷◌, ◌++◌, length, take, drop, max, min, nat_eq, sum_by, Option, None, Some, All, IsTrue, ◌↔◌, get_or, set, slice_index_or, refl, sym, ap, subst, ◌∙◌, arith, take-append-drop, append-nil}
+use Rattle.std.proofs.Common.{◌≡◌, ℕ, zero, suc, ◌+◌, ◌-◌, ◌<◌, ◌≤◌, ◌^◌, ◌⊎◌, inl, inr, List, [], ◌∷◌, ◌++◌, length, take, drop, max, min, nat_eq, sum_by, Option, None, Some, All, IsTrue, ◌↔◌, get_or, set, slice_index_or, refl, sym, ap, subst, ◌∙◌, arith, take-append-drop, append-nil}
 use Rattle.std.specs.List.{range_with_len}
 use Rattle.std.proofs.lemmas.Bool.{cases_eq, eq-eqb, eqb-true, ne_eqb}
 use Rattle.std.proofs.lemmas.Grind.{get_or-set_at}

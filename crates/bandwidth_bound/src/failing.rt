@@ -44,18 +44,31 @@ fn are_there(members: &[u32], count: usize) -> bool
     members.iter().all(|number| (*number as usize) < count)
 }
 
-/// The other members than a frame.
-fn others(members: &[u32], own: u32) -> ArrayVec<u32, 128>
+/// Writes the other members than a frame, in the place of what stands there.
+fn write_others(order: &mut ArrayVec<u32, 128>, members: &[u32], own: u32)
     requires { length members.now ≤ 128 }
-    ensures { result.items ≡ others_of own members.now }
+    ensures { order.new.items ≡ others_of own members.now }
 {
-    let mut others = ArrayVec::new();
+    order.clear();
     for number in members {
         if own != *number {
-            others.push(*number);
+            order.push(*number);
         }
     }
-    others
+}
+
+/// Writes the order in which a member is below the other ones and above the remaining frames, in the place of
+/// what stands there.
+fn write_below(order: &mut ArrayVec<u32, 128>, members: &[u32], own: u32, remaining: &[u32])
+    requires few { length members.now ≤ 128 }
+    requires room { length (others_of own members.now) + 1 + length remaining.now ≤ 128 }
+    ensures { order.new.items ≡ others_of own members.now ++ own ∷ remaining.now }
+{
+    write_others(order, members, own);
+    order.push(own);
+    for number in remaining {
+        order.push(*number);
+    }
 }
 
 /// Whether a number is among the members.
@@ -85,21 +98,20 @@ pub fn order_below(members: &[u32], own: u32, remaining: &[u32]) -> ArrayVec<u32
     requires room { length (others_of own members.now) + 1 + length remaining.now ≤ 128 }
     ensures { result.items ≡ others_of own members.now ++ own ∷ remaining.now }
 {
-    let mut order = others(members, own);
-    order.push(own);
-    for number in remaining {
-        order.push(*number);
-    }
+    let mut order = ArrayVec::new();
+    write_below(&mut order, members, own, remaining);
     order
 }
 
-/// Whether evidence refutes a member below the other ones and above all remaining frames.
+/// Whether evidence refutes a member below the other ones and above all remaining frames. The order is written
+/// in the place of the one before.
 fn is_refuted(
     frames: &[Timed],
     bit: u64,
     hyper: u64,
     members: &[u32],
     remaining: &[u32],
+    order: &mut ArrayVec<u32, 128>,
     own: u32,
     evidence: &Evidence,
 ) -> bool
@@ -113,7 +125,7 @@ fn is_refuted(
     requires member { Contains members.now own }
     ensures { IsTrue result ↔ RefutedBelow frames.now bit hyper members.now own evidence.now }
 {
-    let order = order_below(members, own, remaining);
+    write_below(order, members, own, remaining);
     let place = order.len() - remaining.len() - 1;
     refuted(frames, order.as_slice(), place, bit, hyper, evidence)
 }
@@ -137,6 +149,7 @@ pub fn refutes(frames: &[Timed], bit: u64, hyper: u64, named: &[(u32, Evidence)]
         return false;
     }
     let rest = remaining(frames, members.as_slice());
+    let mut order = ArrayVec::new();
     for (own, evidence) in named {
         if !is_refuted(
             frames,
@@ -144,6 +157,7 @@ pub fn refutes(frames: &[Timed], bit: u64, hyper: u64, named: &[(u32, Evidence)]
             hyper,
             members.as_slice(),
             rest.as_slice(),
+            &mut order,
             *own,
             evidence,
         ) {

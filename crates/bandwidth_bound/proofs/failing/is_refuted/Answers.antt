@@ -3,8 +3,8 @@ use Rattle.bandwidth_bound.proofs.Final.{distinct_rising}
 use Rattle.bandwidth_bound.proofs.FinalNamed.{few_below, place-below, room-below, stage-below}
 use Rattle.bandwidth_bound.proofs.failing.is_refuted.Goals as goal
 
-pub order_below-order-requires-clause-few : goal.order_below-order-requires-clause-few
-order_below-order-requires-clause-few c =
+pub write_below-requires-clause-few : goal.write_below-requires-clause-few
+write_below-requires-clause-few c =
     let members : List ℕ = c.args.members.now in
     omega (
       arith,
@@ -13,8 +13,8 @@ order_below-order-requires-clause-few c =
           (distinct_rising members c.requires.ascending) c.requires.there,
     )
 
-pub order_below-order-requires-clause-room : goal.order_below-order-requires-clause-room
-order_below-order-requires-clause-room c =
+pub write_below-requires-clause-room : goal.write_below-requires-clause-room
+write_below-requires-clause-room c =
     let r = c.requires in
     room-below c.args.frames.now c.args.members.now c.args.remaining.now c.args.own
     r.few r.in_range r.there r.ascending r.member r.remaining
@@ -23,7 +23,7 @@ pub refuted-requires-clause-stage : goal.refuted-requires-clause-stage
 refuted-requires-clause-stage c =
     let r = c.requires in
     let order : List ℕ = c.as_slice.result.now in
-    let is = c.as_slice.ensures.value ∙ c.order_below-order.ensures in
+    let is = c.as_slice.ensures.value ∙ c.write_below.ensures in
     let at : c.len.result - length c.args.remaining.now - 1 ≡ length order - length c.args.remaining.now - 1 =
     omega (arith, c.len.ensures.value, ap length c.as_slice.ensures.value) in
     stage-below c.args.frames.now c.args.members.now order c.args.remaining.now c.args.own

@@ -1,4 +1,4 @@
-use Rattle.std.proofs.Common.{◌*◌, ◌<◌, ◌^◌, [], ◌∷◌, ◌++◌, arith}
+use Rattle.std.proofs.Common.{[], ◌∷◌, ◌++◌, arith}
 use Rattle.grouping_tree.specs.Grouped.{labels_of}
 use Rattle.bandwidth_bound.proofs.Loads.{range_fits}
 use Rattle.bandwidth_bound.proofs.floors.Floors.lower8_ahead.Goals as goal

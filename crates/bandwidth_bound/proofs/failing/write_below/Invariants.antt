@@ -1,6 +1,6 @@
 use Rattle.std.proofs.Common.{◌≡◌, ◌++◌, ◌∷◌, take}
 use Rattle.response_test.specs.Order.{others_of}
-use Rattle.bandwidth_bound.proofs.failing.order_below.Given as goal
+use Rattle.bandwidth_bound.proofs.failing.write_below.Given as goal
 
 abbrev pub invariant-loop-number : goal.invariant-loop-number
 invariant-loop-number l =

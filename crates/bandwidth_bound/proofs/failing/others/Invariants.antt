@@ -1,6 +1,0 @@
-use Rattle.std.proofs.Common.{◌≡◌, take}
-use Rattle.response_test.specs.Order.{others_of}
-use Rattle.bandwidth_bound.proofs.failing.others.Given as goal
-
-abbrev pub invariant-loop-number : goal.invariant-loop-number
-invariant-loop-number l = l.others.items ≡ others_of l.own (take l.number-index l.members)
