@@ -37,7 +37,7 @@ use Rattle.par_check.specs.declared.shard.Shard.{Shard}
 use Rattle.par_check.specs.declared.shard_walk.ShardWalk.{ShardWalk}
 use Rattle.par_check.specs.Gathered.{IsOfTree, bare, bare_all, bare_of, open_events}
 use Rattle.par_check.specs.Shards.{AreFound, IsShard, ShardStands, lesser}
-use Rattle.par_check.specs.ShardWalks.{IsBegun, KnowsHoles, ShardsTaken, TakesOn, goal_by, of_hole, of_shard, part_events, with_part}
+use Rattle.par_check.specs.ShardWalks.{BeginsShard, IsBegun, KnowsHoles, ShardsTaken, TakesOn, goal_by, of_hole, of_shard, part_events, with_part}
 use Rattle.par_check.proofs.BatchLaws.{batch_falls, batch_stands, shard_more}
 use Rattle.par_check.proofs.Marks.{goes_on, open_goes_on}
 
@@ -142,29 +142,35 @@ module _ (problem : Parts) (rows : List MatrixRow) where
       denies_now d stand =
           s.denies d (holes_stay problem rows walk.walk after s.entries (as_event e ∷ []) s.taken now stand)
 
-      pub event_more : ShardsTaken problem rows (record walk { walk = after }) (events ++ e ∷ [])
-      event_more = record {
+      -- with what is gathered of a marked tree that begins here, if it does
+      with_begun : (part : Option Gathering) (number : ℕ) → part_events part ≡ [] → IsBegun after entries_now part
+          → ShardsTaken problem rows (record walk { walk = after; gathering = part; number = number })
+          (events ++ e ∷ [])
+      with_begun part number empty begun = record {
         entries = entries_now;
         taken = now;
-        said = said_now ∙ none_open entries_now;
-        begun = subst (IsBegun after entries_now) (sym nothing) tt;
+        said = said_now ∙ sym (append-nil (in_full entries_now))
+            ∙ ap (λ es. in_full entries_now ++ es) (sym empty);
+        begun = begun;
         holes = holes_now;
         denies = denies_now;
       }
 
-      -- a mark, after which a tree is read
-      pub mark_more : (part : Gathering) → e ≡ event.ShardMark → open_events part.nodes.items ≡ []
-          → falls after ≡ false
-          → ShardsTaken problem rows (with_part (record walk { walk = after }) part) (events ++ e ∷ [])
-      mark_more part is begun well = record {
-        entries = entries_now;
-        taken = now;
-        said = said_now ∙ sym (append-nil (in_full entries_now))
-            ∙ ap (λ es. in_full entries_now ++ es) (sym begun);
-        begun = ((s.entries, ap (λ x. s.entries ++ as_event x ∷ []) is), well);
-        holes = holes_now;
-        denies = denies_now;
-      }
+      pub event_more : ShardsTaken problem rows (record walk { walk = after }) (events ++ e ∷ [])
+      event_more =
+          with_begun walk.gathering walk.number (ap part_events nothing)
+          (subst (IsBegun after entries_now) (sym nothing) tt)
+
+      -- a mark, after which a tree is gathered, or walked as it comes
+      pub mark_more : (later : ShardWalk) → e ≡ event.ShardMark → BeginsShard (record walk { walk = after }) later
+          → ShardsTaken problem rows later (events ++ e ∷ [])
+      mark_more later is begins =
+          subst (λ w. ShardsTaken problem rows w (events ++ e ∷ [])) (sym begins.rest)
+          (with_begun later.gathering later.number begins.empty (by later.gathering begins.stands))
+        where
+          by : (part : Option Gathering) → IfSome part (λ p. falls after ≡ false) → IsBegun after entries_now part
+          by None well = tt
+          by (Some part) well = ((s.entries, ap (λ x. s.entries ++ as_event x ∷ []) is), well)
 
     -- ---- a shard
 

@@ -1,5 +1,5 @@
 -- What a walk stores whose marked trees are judged apart: the project's own.
-use Rattle.std.specs.Prelude.{◌≡◌, ⊤, ℕ, true, false, All, List, [], ◌∷◌, ◌++◌, map, Option, None, Some}
+use Rattle.std.specs.Prelude.{◌≡◌, ⊤, ℕ, true, false, All, List, [], ◌∷◌, ◌++◌, map, Option, None, Some, IfSome}
 use Rattle.std.specs.List.{flat_map}
 use Rattle.pack_model.specs.Problem.{Parts}
 use Rattle.matrix_rows.specs.declared.matrix.MatrixRow.{MatrixRow}
@@ -85,6 +85,12 @@ HasShards problem walk = (rows : List MatrixRow) × (events : List Event)
 abbrev pub StaysTaken : Parts → ShardWalk → ShardWalk → Type 0
 StaysTaken problem before after = (rows : List MatrixRow) (events : List Event)
     → ShardsTaken problem rows before events → BeginsEvents events → ShardsTaken problem rows after events
+
+-- A marked tree begins: it is gathered from now on, where nothing is known not to stand, or walked as it comes.
+pub record BeginsShard (before after : ShardWalk) : Type 0 where
+  pub rest : after ≡ record before { gathering = after.gathering; number = after.number }
+  pub empty : part_events after.gathering ≡ []
+  pub stands : IfSome after.gathering (λ part. falls before.walk ≡ false)
 
 -- with this part of a marked tree
 abbrev pub with_part : ShardWalk → Gathering → ShardWalk

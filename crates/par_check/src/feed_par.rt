@@ -14,12 +14,13 @@ use std::alloc::Global;
 use std::thread::Threads;
 
 /// The verdict of the certificate in the file of this name on a problem's matrix, by the acceptance rule. It
-/// reads the file by pieces. At most so many workers judge its marked trees, each of which is kept until then; of
-/// other trees nothing is kept. The answer is that of `check_feed` for every number of workers.
+/// reads the file by pieces. The answer is that of `check_feed` for every number of workers.
 ///
-/// The trees that are marked before the main tree are judged together when that begins, and later ones when four
-/// times as many as there are workers were read, before the file is read on. A worker enters the gate with a
-/// tree's number, from 0 in the order of the marks, before it judges the tree.
+/// One worker alone judges each tree as it is read, and keeps nothing of it. Several judge the marked trees, each
+/// of which is kept until then; of other trees nothing is kept. The trees that are marked before the main tree are
+/// judged together when that begins, and later ones when four times as many as there are workers were read, before
+/// the file is read on. A worker enters the gate with a tree's number, from 0 in the order of the marks, before it
+/// judges the tree.
 ///
 /// # Errors
 ///

@@ -9,7 +9,7 @@ ghost use Rattle.cert_check.specs.Joined.{IsFoundHolding};
 ghost use Rattle.cert_check.specs.Taken.{HasOwnParts, HasStored, falls};
 ghost use Rattle.par_check.specs.Gathered.{bare_of};
 ghost use Rattle.par_check.specs.Shards.{IsGoal};
-ghost use Rattle.par_check.specs.ShardWalks.{HasShards, MayTake, ShardsBegun, ShardsTaken, StaysTaken, TakesOn, goal_by, with_part};
+ghost use Rattle.par_check.specs.ShardWalks.{BeginsShard, HasShards, MayTake, ShardsBegun, ShardsTaken, StaysTaken, TakesOn, goal_by, with_part};
 
 use crate::checking::check_shards;
 use crate::gathering::{Gathered, Gathering};
@@ -38,7 +38,8 @@ fn goal_of(alloc: Global, problem: &Problem, walk: &CertWalk) -> Result<Goal, Me
     })
 }
 
-/// A walk over the events of a certificate, which gathers each marked tree into a shard and passes over it.
+/// A walk over the events of a certificate. For several workers it gathers each marked tree into a shard and
+/// passes over it.
 #[derive(Drop)]
 pub(crate) struct ShardWalk {
     alloc: Global,
@@ -81,28 +82,54 @@ impl ShardWalk {
     }
 
     /// Takes the next event. True where the shards are to be judged now.
-    fn take(&mut self, problem: &Problem, workers: u32, event: Event) -> Result<bool, Memory>
+    fn take<G: Gate>(
+        &mut self,
+        problem: &Problem,
+        workers: u32,
+        gate: &G,
+        event: Event,
+    ) -> Result<bool, Memory>
         requires { MayTake problem.now self.old (event ∷ []) }
         ensures { OnOk result (TakesOn problem.now self.old self.new (event ∷ [])) }
     {
         match mem::take(&mut self.gathering) {
-            None => Ok(self.walk_on(problem, &event)),
+            None => Ok(self.walk_on(problem, workers, gate, &event)),
             Some(part) => self.gather(problem, workers, part, event),
         }
     }
 
     /// Takes an event that is not one of a shard. True where the main tree begins.
-    fn walk_on(&mut self, problem: &Problem, event: &Event) -> bool
+    fn walk_on<G: Gate>(&mut self, problem: &Problem, workers: u32, gate: &G, event: &Event) -> bool
         requires taken { MayTake problem.now self.old (event.now ∷ []) }
         requires none { self.old.gathering ≡ None }
         ensures { TakesOn problem.now self.old self.new (event.now ∷ []) }
     {
         self.walk.take(problem, event);
-        if matches!(event, Event::ShardMark) && !self.has_failed() {
-            self.gathering = Some(Gathering::new(self.alloc));
-            return false;
+        match event {
+            Event::ShardMark => {
+                self.begin_shard(workers, gate);
+                false
+            }
+            Event::Main => true,
+            _ => false,
         }
-        matches!(event, Event::Main)
+    }
+
+    /// Begins the marked tree after a mark that was taken. One worker alone judges it where it stands, as its
+    /// events come, and enters the gate now; for several it is gathered into a shard.
+    fn begin_shard<G: Gate>(&mut self, workers: u32, gate: &G)
+        requires { self.old.gathering ≡ None }
+        ensures { BeginsShard self.old self.new }
+    {
+        if self.has_failed() {
+            return;
+        }
+        if workers > 1 {
+            self.gathering = Some(Gathering::new(self.alloc));
+            return;
+        }
+        gate.enter(self.number);
+        self.number = self.number.saturating_add(1);
     }
 
     /// Takes an event of a shard, of which there is a part. True where it is the last one of a batch.
@@ -200,7 +227,7 @@ impl ShardWalk {
         requires taken { MayTake problem.now self.old (event ∷ []) }
         ensures { OnOk result (TakesOn problem.now self.old self.new (event ∷ [])) }
     {
-        if !self.take(problem, workers, event)? {
+        if !self.take(problem, workers, gate, event)? {
             return Ok(());
         }
         self.judge(rt, problem, workers, gate)
