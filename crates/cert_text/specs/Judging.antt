@@ -26,6 +26,11 @@ pub record Judges (old now : CertFeed) (more : List ℕ) (lines : List Line) : T
   pub number : now.lines ≡ old.lines + length lines
   pub within : IsWithin now.source now.lines
 
+-- a feed judged this line where it stood in what was left
+pub record JudgesHere (old now : CertFeed) (line : Line) : Type 0 where
+  pub judges : Judges old now [] (line ∷ [])
+  pub few : length now.source.left < 65536
+
 -- a feed judged one line, and heard it
 pub record HearsLine (old now : CertFeed) (more : List ℕ) (heard next : Heard)
     (e : Option Event) : Type 0 where
