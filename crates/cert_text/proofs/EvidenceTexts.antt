@@ -4,7 +4,7 @@ use Rattle.std.specs.List.{join_with_byte}
 use Rattle.std.proofs.lemmas.List.{length-append, map-append}
 use Rattle.response_test.specs.declared.evidence.Evidence.TheVariants as evidence
 use Rattle.cert_text.specs.Lines.{line_words}
-use Rattle.cert_text.specs.Evidences.{BeginsAgainst, BlankNumbers, EndNumbers, with_blanks}
+use Rattle.cert_text.specs.Evidences.{BeginsAgainst, BeginsFail, BlankNumbers, EndNumbers, with_blanks}
 use Rattle.cert_text.proofs.Cuts.{all_append}
 
 -- no number
@@ -73,3 +73,8 @@ begins_late bytes one two three four bs ws after label q e low f small b some sl
       ∙ sym (joined (label ∷ q ∷ bs) (47 ∷ []) (map decimal ws) (10 ∷ after)));
   in_range = (low, (small, some, b.small, w.some, w.small));
 }
+
+-- a fail leaf with evidence
+pub begins_lacking : (bytes rest after : List ℕ) (n : ℕ) → bytes ≡ 102 ∷ 32 ∷ rest → rest ≡ decimal n ++ 10 ∷ after → 1 ≤ n → n ≤ 128 → BeginsFail bytes n after
+unfolding line_words
+begins_lacking bytes rest after n is e some most = record { text = is ∙ ap (λ (x : List ℕ). 102 ∷ 32 ∷ x) e; some = some; most = most }

@@ -1,5 +1,5 @@
 -- The laws of a feed, line by line and event by event.
-use Rattle.std.proofs.Common.{◌≡◌, ◌≢◌, ◌<◌, ◌≤◌, ◌+◌, ◌-◌, ◌^◌, ℕ, List, [], ◌∷◌, ◌++◌, length, Option, Some, None, Ok, Err, true, false, refl, sym, ap, subst, ◌∙◌, append_assoc, append-nil, length-append, arith}
+use Rattle.std.proofs.Common.{◌≡◌, ◌≢◌, ◌<◌, ◌≤◌, ◌+◌, ◌-◌, ◌^◌, ℕ, List, [], ◌∷◌, ◌++◌, length, Option, Some, None, Ok, Err, true, false, inl, inr, refl, sym, ap, subst, ◌∙◌, append_assoc, append-nil, length-append, arith}
 use Rattle.std.specs.Prelude.{Result}
 use Rattle.std.specs.List.{AllByRecursion}
 use Rattle.std.specs.Option.{option_and_then}
@@ -10,6 +10,7 @@ use Rattle.cert_text.specs.declared.fault.FeedFault.{FeedFault}
 use Rattle.cert_text.specs.declared.fault.FeedFault.TheVariants as fault
 use Rattle.cert_text.specs.declared.feed.CertFeed.{CertFeed}
 use Rattle.cert_text.specs.declared.line.Line.{Line}
+use Rattle.cert_text.specs.declared.line.Line.TheVariants as line
 use Rattle.cert_text.specs.declared.node.Node.{Node}
 use Rattle.cert_text.specs.declared.node.Node.TheVariants as node
 use Rattle.cert_text.specs.declared.symbol.Symbol.{Symbol}
@@ -23,7 +24,7 @@ use Rattle.cert_text.specs.Nodes.{BeginsNode, node_event, node_line}
 use Rattle.cert_text.specs.Depths.{IsWithin, bytes_ahead, depth_of, is_last}
 use Rattle.cert_text.specs.Sources.{Ends, Held, Reads, TakesLine, TakesUntil, broke, no_end, text_refusal}
 use Rattle.cert_text.specs.Given.{BeginsEvents, Given, IsAnswerOf, IsNext, IsRefused, IsTextOf}
-use Rattle.cert_text.specs.Judging.{Finishes, HearsEvent, HearsLine, IsWhole, Judges, JudgesHere, RefusesBad, RefusesLine, RefusesLines, RefusesRest}
+use Rattle.cert_text.specs.Judging.{BeginsHearing, Finishes, HearsEvent, HearsLine, IsWhole, Judges, JudgesHere, RefusesBad, RefusesLine, RefusesLines, RefusesRest}
 use Rattle.cert_text.proofs.Cuts.{all_append}
 use Rattle.cert_text.proofs.GivenLaws.{bad_next, cut_next, events_begin, exact_lines, heard_ends, heard_more, heard_nothing, last_event, lines_go_on, lines_push, not_ended, refused_after, rest_bad, run_nothing, run_one, run_then, whole_text}
 use Rattle.cert_text.proofs.Shapes.{Shaped, end_last, run_shaped, shaped_depth, start_shaped}
@@ -211,6 +212,12 @@ pub here_more : {F : Type 0} {files : F → Files} {r w g : F → List ℕ → �
     → EventSoFar files r w g name old now a b heard → JudgesHere now next l → (further, None) ≡ hear heard l → EventSoFar files r w g name old next a b further
 here_more {files = files} {r = r} {w = w} {g = g} {name = name} {now = now} {b = b} next l further s j hears =
     event_more b next further [] s (reads_none files r w g name now.source.count b s.judges.within.count) (record { line = l; judges = j.judges; hears = hears; few = j.few })
+
+-- after the first line, if it was that of a fail leaf
+pub event_begun : {F : Type 0} (files : F → Files) (r w g : F → List ℕ → ℕ) (name : List ℕ) (feed now : CertFeed) (here : F) (heard : Heard) → IsWithin feed.source feed.lines → BeginsHearing feed now heard
+    → EventSoFar files r w g name feed now here here heard
+event_begun files r w g name feed now here heard within (inl b) = event_same now b.0 (event_none files r w g name feed here heard within b.1)
+event_begun files r w g name feed now here heard within (inr b) = here_more now (line.FailLine b.0) heard (event_none files r w g name feed here silent within refl) b.1 b.2
 
 -- one line more, where it stood, that ends an event
 pub here_heard : {F : Type 0} {files : F → Files} {r w g : F → List ℕ → ℕ} {name : List ℕ} {old now : CertFeed} {a b : F} {heard : Heard} (next : CertFeed) (l : Line) (further : Heard) (e : Event)

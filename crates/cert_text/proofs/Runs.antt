@@ -109,6 +109,11 @@ pub after_leaf : (before now : List Symbol) (l : Line) (marks : Bool) (depth : �
     → after before l ≡ Some now
 after_leaf before now l marks depth was none = ap (λ (x : List Symbol). after x l) was ∙ ap (option_map (λ (more : List Symbol). more ++ now)) none
 
+-- what is to come after the line of a fail leaf
+pub after_fail : (before rest now : List Symbol) (marks : Bool) (depth n : ℕ) → before ≡ symbol.TreeAt marks depth ∷ rest → now ≡ of_run (record { symbol = symbol.Against; count = n }) ++ rest
+    → after before (line.FailLine n) ≡ Some now
+after_fail before rest now marks depth n was is = ap (λ (x : List Symbol). after x (line.FailLine n)) was ∙ ap (λ (x : List Symbol). Some x) (sym is)
+
 -- what is to come after a line of evidence
 pub after_against : (before now : List Symbol) (label : ℕ) (e : Evidence) → before ≡ symbol.Against ∷ now → after before (line.AgainstLine label e) ≡ Some now
 after_against before now label e was = ap (λ (x : List Symbol). after x (line.AgainstLine label e)) was

@@ -25,3 +25,9 @@ pub record EndNumbers (bytes ns after : List ℕ) : Type 0 where
 pub record BeginsAgainst (bytes : List ℕ) (label : ℕ) (e : Evidence) (after : List ℕ) : Type 0 where
   pub text : bytes ≡ line_text (line.AgainstLine label e) ++ (10 ∷ after)
   pub in_range : LineInRange (line.AgainstLine label e)
+
+-- the bytes begin with the line of a fail leaf with so much evidence, and these follow its LF
+pub record BeginsFail (bytes : List ℕ) (n : ℕ) (after : List ℕ) : Type 0 where
+  pub text : bytes ≡ line_text (line.FailLine n) ++ (10 ∷ after)
+  pub some : 1 ≤ n
+  pub most : n ≤ 128

@@ -1,6 +1,6 @@
 //! The lines of evidence, read where they stand.
 ghost use Rattle.std.specs.Prelude.{◌≡◌, ◌∷◌, IfSome};
-ghost use Rattle.cert_text.specs.Evidences.{BeginsAgainst, BlankNumbers, EndNumbers};
+ghost use Rattle.cert_text.specs.Evidences.{BeginsAgainst, BeginsFail, BlankNumbers, EndNumbers};
 
 use crate::number::number_until;
 use pack_model::Chain;
@@ -102,6 +102,22 @@ fn after_two(bytes: &[u8], one: u8, other: u8) -> Option<&[u8]>
         return None;
     }
     Some(rest)
+}
+
+/// The number of the line of a fail leaf with evidence that the bytes begin with, and the bytes after its LF.
+pub(crate) fn lacking_in(bytes: &[u8]) -> Option<(u32, &[u8])>
+    ensures { IfSome result (λ x. BeginsFail bytes.now x.0 x.1.now) }
+{
+    let (first, rest) = bytes.split_first()?;
+    let (second, rest) = rest.split_first()?;
+    if *first != b'f' || *second != b' ' {
+        return None;
+    }
+    let (count, after) = number_until(rest, b'\n')?;
+    if count < 1 || count > 128 {
+        return None;
+    }
+    Some((count as u32, after))
 }
 
 /// The evidence whose line the bytes begin with, with its label, and the bytes after its LF. None where that isn't

@@ -1,5 +1,5 @@
 //! The events of lines.
-ghost use Rattle.std.specs.Prelude.{◌≡◌, IfOk, Some};
+ghost use Rattle.std.specs.Prelude.{◌≡◌, ◌≤◌, IfOk, None, Some};
 ghost use Rattle.cert_text.specs.Heard.{hear, heard_by, silent};
 ghost use Rattle.cert_text.specs.declared.line.Line.TheVariants as line;
 
@@ -29,6 +29,17 @@ impl Hearing {
         }
     }
 
+    /// A fail leaf begins, with so much evidence.
+    pub fn begin(alloc: Global, count: u32) -> Result<Hearing, Memory>
+        requires { 1 ≤ count }
+        ensures { IfOk result (λ h. (heard_by h, None) ≡ hear silent (line.FailLine count)) }
+    {
+        Ok(Hearing {
+            lacking: count - 1,
+            seen: Vec::with_capacity(alloc, count as usize)?,
+        })
+    }
+
     // A fail leaf begins.
     fn fail(alloc: Global, count: u32) -> Result<(Hearing, Option<Event>), Memory>
         ensures { IfOk result (λ r. (heard_by r.0, r.1) ≡ hear silent (line.FailLine count)) }
@@ -39,13 +50,7 @@ impl Hearing {
                 Some(Event::FailLeaf(Refuted::of(Vec::new(alloc)))),
             ));
         }
-        Ok((
-            Hearing {
-                lacking: count - 1,
-                seen: Vec::with_capacity(alloc, count as usize)?,
-            },
-            None,
-        ))
+        Ok((Hearing::begin(alloc, count)?, None))
     }
 
     /// Hears a line of evidence, and gives the event that it ends.

@@ -4,14 +4,15 @@ use Rattle.cert_text.specs.declared.line.Line.TheVariants as line
 use Rattle.cert_text.specs.Heard.{hear, heard_by}
 use Rattle.cert_text.specs.Judging.{HearsLine}
 use Rattle.cert_text.specs.Sources.{text_refusal}
-use Rattle.cert_text.proofs.FeedLaws.{event_heard, event_more, event_none, event_refused, event_same, here_heard, here_more, same_smaller}
+use Rattle.cert_text.proofs.FeedLaws.{event_begun, event_heard, event_more, event_refused, event_same, here_heard, here_more, same_smaller}
 use Rattle.cert_text.proofs.SourceLaws.{reads_then}
 use Rattle.cert_text.proofs.feed.CertFeed.hear_lines.Goals as goal
 
 pub loop-label-init : goal.loop-label-init
 loop-label-init g c = (
-  event_none g.F.Folder.files g.F.Folder.read_faults g.F.Folder.write_faults g.F.Folder.given c.args.name.now c.args.self.now c.args.folder.now (heard_by c.new-hearing.result) c.requires.within c.new-hearing.ensures,
-  c.requires.closed,
+  event_begun g.F.Folder.files g.F.Folder.read_faults g.F.Folder.write_faults g.F.Folder.given c.args.name.now c.args.self.now c.begin.new.self c.args.folder.now (heard_by c.in_ok-hearing.hearing) c.requires.within
+      c.in_ok-hearing.ensures.begun,
+  c.in_ok-hearing.ensures.closed,
 )
 
 pub returns-in-Some-2-clause-event : goal.returns-in-Some-2-clause-event
