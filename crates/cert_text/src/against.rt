@@ -120,8 +120,8 @@ pub(crate) fn lacking_in(bytes: &[u8]) -> Option<(u32, &[u8])>
     Some((count as u32, after))
 }
 
-/// The evidence whose line the bytes begin with, with its label, and the bytes after its LF. None where that isn't
-/// told, or for want of memory.
+/// The evidence whose line the bytes begin with, with its label, and the bytes after its LF. None where that
+/// isn't told, or for want of memory.
 pub(crate) fn against_in(alloc: Global, bytes: &[u8]) -> Option<(u32, Evidence, &[u8])>
     ensures { IfSome result (λ x. BeginsAgainst bytes.now x.0 x.1 x.2.now) }
 {

@@ -44,7 +44,8 @@ impl CertFeed {
     ghost use Rattle.cert_text.specs.Sources.{Reads, broke, cause, text_refusal};
     ghost use Rattle.cert_text.specs.Given.{Feeds, Given, HasGiven, IsAnswerOf};
     ghost use Rattle.cert_text.specs.declared.line.Line.TheVariants as line;
-    ghost use Rattle.cert_text.specs.Judging.{BeginsHearing, Finishes, HearsEvent, JudgesHere, OneEvent, OneLine, RefusesBad};
+    ghost use Rattle.cert_text.specs.Judging.{BeginsHearing, Finishes, HearsEvent, JudgesHere};
+    ghost use Rattle.cert_text.specs.Judging.{OneEvent, OneLine, RefusesBad};
 
     /// A feed before the first byte of a file.
     pub fn new(alloc: Global) -> Result<CertFeed, Memory>
@@ -125,8 +126,8 @@ impl CertFeed {
         Some(node.event(self.alloc))
     }
 
-    // The evidence of the next line, where that line stands in the piece of the file. None, and no change, where it
-    // may be another line, or can't stand.
+    // The evidence of the next line, where that line stands in the piece of the file. None, and no change, where
+    // it may be another line, or can't stand.
     fn take_evidence(&mut self) -> Option<(u32, Evidence)>
         requires within { IsWithin self.old.source self.old.lines }
         requires closed { self.old.ended ≡ true }
@@ -144,8 +145,8 @@ impl CertFeed {
         Some((label, evidence))
     }
 
-    // How much evidence the fail leaf has whose line comes next, where that line stands in the piece of the file.
-    // None, and no change, where it may be another line, or can't stand.
+    // How much evidence the fail leaf has whose line comes next, where that line stands in the piece of the
+    // file. None, and no change, where it may be another line, or can't stand.
     fn take_fail(&mut self) -> Option<u32>
         requires within { IsWithin self.old.source self.old.lines }
         requires closed { self.old.ended ≡ true }

@@ -326,8 +326,8 @@ impl Position {
         }
     }
 
-    /// Goes past the line of a fail leaf with so much evidence, where a tree may stand. Nothing changes where that isn't
-    /// told, or for want of memory.
+    /// Goes past the line of a fail leaf with so much evidence, where a tree may stand. Nothing changes where
+    /// that isn't told, or for want of memory.
     pub fn take_fail(&mut self, count: u32) -> bool
         ensures taken { IsTrue result → after self.old (line.FailLine count) ≡ Some self.new }
         ensures kept { result ≡ false → self.new ≡ self.old }
