@@ -1,5 +1,5 @@
 -- The laws of a feed, line by line and event by event.
-use Rattle.std.proofs.Common.{◌≡◌, ◌≢◌, ◌<◌, ◌≤◌, ◌+◌, ◌-◌, ◌^◌, ℕ, List, [], ◌∷◌, ◌++◌, length, Option, Some, None, Ok, Err, true, false, refl, sym, ap, subst, ◌∙◌, append_assoc, append-nil, length-append, arith}
+use Rattle.std.proofs.Common.{◌≡◌, ◌≢◌, ◌<◌, ◌≤◌, ◌+◌, ◌-◌, ◌^◌, ℕ, List, [], ◌∷◌, ◌++◌, length, Option, Some, None, Ok, Err, true, false, inl, inr, refl, sym, ap, subst, ◌∙◌, append_assoc, append-nil, length-append, arith}
 use Rattle.std.specs.Prelude.{Result}
 use Rattle.std.specs.List.{AllByRecursion}
 use Rattle.std.specs.Option.{option_and_then}
@@ -10,6 +10,7 @@ use Rattle.cert_text.specs.declared.fault.FeedFault.{FeedFault}
 use Rattle.cert_text.specs.declared.fault.FeedFault.TheVariants as fault
 use Rattle.cert_text.specs.declared.feed.CertFeed.{CertFeed}
 use Rattle.cert_text.specs.declared.line.Line.{Line}
+use Rattle.cert_text.specs.declared.line.Line.TheVariants as line
 use Rattle.cert_text.specs.declared.node.Node.{Node}
 use Rattle.cert_text.specs.declared.node.Node.TheVariants as node
 use Rattle.cert_text.specs.declared.symbol.Symbol.{Symbol}
@@ -18,12 +19,12 @@ use Rattle.cert_text.specs.CertText.{CertRefusal, bad_line, cut, ended_lines, un
 use Rattle.cert_text.specs.Words.{line_of}
 use Rattle.cert_text.specs.Grammar.{after, run, start}
 use Rattle.cert_text.specs.Reading.{cert_of_text, refusal}
-use Rattle.cert_text.specs.Heard.{Heard, collect, onto_event, silent}
+use Rattle.cert_text.specs.Heard.{Heard, collect, hear, onto_event, silent}
 use Rattle.cert_text.specs.Nodes.{BeginsNode, node_event, node_line}
 use Rattle.cert_text.specs.Depths.{IsWithin, bytes_ahead, depth_of, is_last}
 use Rattle.cert_text.specs.Sources.{Ends, Held, Reads, TakesLine, TakesUntil, broke, no_end, text_refusal}
 use Rattle.cert_text.specs.Given.{BeginsEvents, Given, IsAnswerOf, IsNext, IsRefused, IsTextOf}
-use Rattle.cert_text.specs.Judging.{Finishes, HearsEvent, HearsLine, IsWhole, Judges, RefusesBad, RefusesLine, RefusesLines, RefusesRest}
+use Rattle.cert_text.specs.Judging.{BeginsHearing, Finishes, HearsEvent, HearsLine, IsWhole, Judges, JudgesHere, RefusesBad, RefusesLine, RefusesLines, RefusesRest}
 use Rattle.cert_text.proofs.Cuts.{all_append}
 use Rattle.cert_text.proofs.GivenLaws.{bad_next, cut_next, events_begin, exact_lines, heard_ends, heard_more, heard_nothing, last_event, lines_go_on, lines_push, not_ended, refused_after, rest_bad, run_nothing, run_one, run_then, whole_text}
 use Rattle.cert_text.proofs.Shapes.{Shaped, end_last, run_shaped, shaped_depth, start_shaped}
@@ -168,32 +169,61 @@ node_hears node.Bound rest = refl
 node_hears node.Open rest = refl
 node_hears node.Fail rest = refl
 
--- the line of a node that can stand was judged, where it stood in what was left
+-- a line that can stand was judged, where it stood in what was left
+pub here_judged : (old now : CertFeed) (l : Line) (rest : List ℕ) → IsWithin old.source old.lines → old.source.left ≡ line_text l ++ 10 ∷ rest → LineInRange l → TakesUntil old.source now.source rest
+    → now.lines ≡ old.lines + 1 → after old.position l ≡ Some now.position → JudgesHere old now l
+here_judged old now l rest w is small t lines stands =
+    let text : old.source.left ++ [] ≡ line_text l ++ 10 ∷ now.source.left = append-nil old.source.left ∙ is ∙ ap (λ (x : List ℕ). line_text l ++ 10 ∷ x) (sym t.left) in
+    let count : now.source.count ≡ old.source.count + length {A = ℕ} [] = omega (arith, t.count) in
+    let few_read : now.source.count < 2 ^ 63 = omega (arith, t.count, w.count) in
+    record {
+      judges = record {
+        text =
+            text ∙ sym (append_assoc (line_text l) (10 ∷ []) now.source.left) ∙ ap (λ (x : List ℕ). x ++ now.source.left) (sym (append-nil (ended (line_text l))));
+        in_range = (small, tt);
+        stands = run_one old.position now.position l stands;
+        count = count;
+        number = lines;
+        within = subst (λ (k : ℕ). IsWithin now.source k) (sym lines) (line_within old.source now.source old.lines [] (line_text l) w text count few_read);
+      };
+      few = let few = t.few in omega (arith, few, ap (length {A = ℕ}) t.left);
+    }
+
+-- so was the line of a node, which is heard at once
 pub node_heard : (old now : CertFeed) (n : Node) (rest : List ℕ) → IsWithin old.source old.lines → BeginsNode old.source.left n rest → TakesUntil old.source now.source rest
     → now.lines ≡ old.lines + 1 → after old.position (node_line n) ≡ Some now.position → HearsEvent old now [] (node_event n)
 unfolding collect
 node_heard old now n rest w b t lines stands =
     let l : Line = node_line n in
-    let text : old.source.left ++ [] ≡ line_text l ++ 10 ∷ now.source.left =
-    append-nil old.source.left ∙ b.text ∙ append_assoc (line_text l) (10 ∷ []) rest ∙ ap (λ (x : List ℕ). line_text l ++ 10 ∷ x) (sym t.left) in
-    let count : now.source.count ≡ old.source.count + length {A = ℕ} [] = omega (arith, t.count) in
-    let small : now.source.count < 2 ^ 63 = omega (arith, t.count, w.count) in
-    record {
-      before = [];
-      last = l;
-      judges = record {
-        text =
-            text ∙ sym (append_assoc (line_text l) (10 ∷ []) now.source.left) ∙ ap (λ (x : List ℕ). x ++ now.source.left) (sym (append-nil (ended (line_text l))));
-        in_range = (b.in_range, tt);
-        stands = run_one old.position now.position l stands;
-        count = count;
-        number = lines;
-        within = subst (λ (k : ℕ). IsWithin now.source k) (sym lines) (line_within old.source now.source old.lines [] (line_text l) w text count small);
-      };
-      none = refl;
-      hears = node_hears n;
-      few = let few = t.few in omega (arith, few, ap (length {A = ℕ}) t.left);
-    }
+    let here : JudgesHere old now l = here_judged old now l rest w (b.text ∙ append_assoc (line_text l) (10 ∷ []) rest) b.in_range t lines stands in
+    record { before = []; last = l; judges = here.judges; none = refl; hears = node_hears n; few = here.few }
+
+-- nothing was taken
+pub event_same : {F : Type 0} {files : F → Files} {r w g : F → List ℕ → ℕ} {name : List ℕ} {old now : CertFeed} {a b : F} {heard : Heard} (next : CertFeed) → next ≡ now
+    → EventSoFar files r w g name old now a b heard → EventSoFar files r w g name old next a b heard
+event_same {files = files} {r = r} {w = w} {g = g} {name = name} {old = old} {a = a} {b = b} {heard = heard} next is s = subst (λ (f : CertFeed). EventSoFar files r w g name old f a b heard) (sym is) s
+
+-- a line that was judged after nothing was taken takes a byte at least
+pub same_smaller : (a mid b : CertFeed) (n : List ℕ) (l : Line) → mid ≡ a → Judges mid b n (l ∷ []) → 2 ^ 63 + length b.source.left - b.source.count < 2 ^ 63 + length a.source.left - a.source.count
+same_smaller a mid b n l is j = line_smaller a b n l (subst (λ (f : CertFeed). Judges f b n (l ∷ [])) is j)
+
+-- one line more, where it stood, that ends no event
+pub here_more : {F : Type 0} {files : F → Files} {r w g : F → List ℕ → ℕ} {name : List ℕ} {old now : CertFeed} {a b : F} {heard : Heard} (next : CertFeed) (l : Line) (further : Heard)
+    → EventSoFar files r w g name old now a b heard → JudgesHere now next l → (further, None) ≡ hear heard l → EventSoFar files r w g name old next a b further
+here_more {files = files} {r = r} {w = w} {g = g} {name = name} {now = now} {b = b} next l further s j hears =
+    event_more b next further [] s (reads_none files r w g name now.source.count b s.judges.within.count) (record { line = l; judges = j.judges; hears = hears; few = j.few })
+
+-- after the first line, if it was that of a fail leaf
+pub event_begun : {F : Type 0} (files : F → Files) (r w g : F → List ℕ → ℕ) (name : List ℕ) (feed now : CertFeed) (here : F) (heard : Heard) → IsWithin feed.source feed.lines → BeginsHearing feed now heard
+    → EventSoFar files r w g name feed now here here heard
+event_begun files r w g name feed now here heard within (inl b) = event_same now b.0 (event_none files r w g name feed here heard within b.1)
+event_begun files r w g name feed now here heard within (inr b) = here_more now (line.FailLine b.0) heard (event_none files r w g name feed here silent within refl) b.1 b.2
+
+-- one line more, where it stood, that ends an event
+pub here_heard : {F : Type 0} {files : F → Files} {r w g : F → List ℕ → ℕ} {name : List ℕ} {old now : CertFeed} {a b : F} {heard : Heard} (next : CertFeed) (l : Line) (further : Heard) (e : Event)
+    → (s : EventSoFar files r w g name old now a b heard) → JudgesHere now next l → (further, Some e) ≡ hear heard l → HearsEvent old next s.more e
+here_heard {old = old} next l further e s j hears =
+    subst (λ (z : List ℕ). HearsEvent old next z e) (append-nil s.more) (event_heard next further [] e s (record { line = l; judges = j.judges; hears = hears; few = j.few }))
 
 -- a line that is refused
 pub event_refused : {F : Type 0} {files : F → Files} {r w g : F → List ℕ → ℕ} {name : List ℕ} {old now : CertFeed} {a b : F} {heard : Heard} (n : List ℕ) (why : Option CertRefusal)

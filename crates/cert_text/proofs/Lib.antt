@@ -6,6 +6,7 @@ pub mod Events
 pub mod Runs
 pub mod Numbers
 pub mod NodeTexts
+pub mod EvidenceTexts
 pub mod Wide
 pub mod Spelled
 pub mod Cuts

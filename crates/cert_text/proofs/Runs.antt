@@ -4,6 +4,7 @@ use Rattle.std.specs.List.{list_all}
 use Rattle.std.specs.Option.{option_map}
 use Rattle.std.proofs.lemmas.Bool.{and_parts, eq-eqb, eqb-true, lt-ltb}
 use Rattle.std.proofs.lemmas.List.{length-set, set-append_left, take_all, take_more, take_more_set}
+use Rattle.response_test.specs.declared.evidence.Evidence.{Evidence}
 use Rattle.cert_text.specs.declared.symbol.Symbol.{Symbol}
 use Rattle.cert_text.specs.declared.symbol.Symbol.TheVariants as symbol
 use Rattle.cert_text.specs.Depths.{depth_of}
@@ -107,6 +108,15 @@ after_inner before rest now marks depth n was room is =
 pub after_leaf : (before now : List Symbol) (l : Line) (marks : Bool) (depth : ℕ) → before ≡ symbol.TreeAt marks depth ∷ now → expand (symbol.TreeAt marks depth) l ≡ Some []
     → after before l ≡ Some now
 after_leaf before now l marks depth was none = ap (λ (x : List Symbol). after x l) was ∙ ap (option_map (λ (more : List Symbol). more ++ now)) none
+
+-- what is to come after the line of a fail leaf
+pub after_fail : (before rest now : List Symbol) (marks : Bool) (depth n : ℕ) → before ≡ symbol.TreeAt marks depth ∷ rest → now ≡ of_run (record { symbol = symbol.Against; count = n }) ++ rest
+    → after before (line.FailLine n) ≡ Some now
+after_fail before rest now marks depth n was is = ap (λ (x : List Symbol). after x (line.FailLine n)) was ∙ ap (λ (x : List Symbol). Some x) (sym is)
+
+-- what is to come after a line of evidence
+pub after_against : (before now : List Symbol) (label : ℕ) (e : Evidence) → before ≡ symbol.Against ∷ now → after before (line.AgainstLine label e) ≡ Some now
+after_against before now label e was = ap (λ (x : List Symbol). after x (line.AgainstLine label e)) was
 
 -- no runs have no pieces
 pub pieces_empty : (rs : List Run) → length rs ≡ 0 → pieces rs ≡ []

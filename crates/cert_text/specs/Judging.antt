@@ -1,5 +1,5 @@
 -- What a feed does line by line.
-use Rattle.std.specs.Prelude.{◌≡◌, ◌≢◌, ⊤, ◌+◌, ◌<◌, ℕ, List, [], ◌∷◌, ◌++◌, length, Option, None, Some, Result, Ok, Err}
+use Rattle.std.specs.Prelude.{◌≡◌, ◌≢◌, ◌⊎◌, ⊤, ◌+◌, ◌<◌, ℕ, List, [], ◌∷◌, ◌++◌, length, Option, None, Some, Result, Ok, Err}
 use Rattle.std.specs.List.{AllByRecursion}
 use Rattle.pack_base.specs.Outside.{Files}
 use Rattle.cert_text.specs.declared.event.Event.{Event}
@@ -8,6 +8,7 @@ use Rattle.cert_text.specs.declared.fault.FeedFault.{FeedFault}
 use Rattle.cert_text.specs.declared.feed.CertFeed.{CertFeed}
 use Rattle.cert_text.specs.declared.hearing.Hearing.{Hearing}
 use Rattle.cert_text.specs.declared.line.Line.{Line}
+use Rattle.cert_text.specs.declared.line.Line.TheVariants as line
 use Rattle.cert_text.specs.declared.symbol.Symbol.{Symbol}
 use Rattle.cert_text.specs.Lines.{LineInRange, text_of}
 use Rattle.cert_text.specs.CertText.{CertRefusal, bad_line, ended_lines, unfinished}
@@ -25,6 +26,17 @@ pub record Judges (old now : CertFeed) (more : List ℕ) (lines : List Line) : T
   pub count : now.source.count ≡ old.source.count + length more
   pub number : now.lines ≡ old.lines + length lines
   pub within : IsWithin now.source now.lines
+
+-- a feed judged this line where it stood in what was left
+pub record JudgesHere (old now : CertFeed) (line : Line) : Type 0 where
+  pub judges : Judges old now [] (line ∷ [])
+  pub few : length now.source.left < 65536
+
+-- a feed judged the line of a fail leaf with evidence, and heard it, or nothing
+abbrev pub BeginsHearing : CertFeed → CertFeed → Heard → Type 0
+BeginsHearing old now h =
+    ((now ≡ old) × (h ≡ silent))
+    ⊎ ((n : ℕ) × JudgesHere old now (line.FailLine n) × ((h, None) ≡ hear silent (line.FailLine n)))
 
 -- a feed judged one line, and heard it
 pub record HearsLine (old now : CertFeed) (more : List ℕ) (heard next : Heard)

@@ -2,6 +2,7 @@
 ghost use Rattle.std.specs.Prelude.{◌≡◌, ◌≤◌, ◌<◌, [], false, true, length, IsErrOf};
 ghost use Rattle.cert_text.specs.Depths.{MayGoOn, bytes_ahead, depth_of, is_last};
 
+use crate::against::{against_in, lacking_in};
 use crate::event::Event;
 use crate::fault::FeedFault;
 use crate::hearing::Hearing;
@@ -11,6 +12,7 @@ use crate::position::Position;
 use crate::source::Source;
 use pack_base::Folder;
 use pack_model::Memory;
+use response_test::Evidence;
 use std::alloc::Global;
 
 /// Where a reader of a certificate stands that holds neither its text nor its tree: it reads a piece of the
@@ -41,7 +43,9 @@ impl CertFeed {
     ghost use Rattle.cert_text.specs.Heard.{heard_by};
     ghost use Rattle.cert_text.specs.Sources.{Reads, broke, cause, text_refusal};
     ghost use Rattle.cert_text.specs.Given.{Feeds, Given, HasGiven, IsAnswerOf};
-    ghost use Rattle.cert_text.specs.Judging.{Finishes, HearsEvent, OneEvent, OneLine, RefusesBad};
+    ghost use Rattle.cert_text.specs.declared.line.Line.TheVariants as line;
+    ghost use Rattle.cert_text.specs.Judging.{BeginsHearing, Finishes, HearsEvent, JudgesHere};
+    ghost use Rattle.cert_text.specs.Judging.{OneEvent, OneLine, RefusesBad};
 
     /// A feed before the first byte of a file.
     pub fn new(alloc: Global) -> Result<CertFeed, Memory>
@@ -122,6 +126,57 @@ impl CertFeed {
         Some(node.event(self.alloc))
     }
 
+    // The evidence of the next line, where that line stands in the piece of the file. None, and no change, where
+    // it may be another line, or can't stand.
+    fn take_evidence(&mut self) -> Option<(u32, Evidence)>
+        requires within { IsWithin self.old.source self.old.lines }
+        requires closed { self.old.ended ≡ true }
+        ensures told { IfSome result (λ x. JudgesHere self.old self.new (line.AgainstLine x.0 x.1)) }
+        ensures kept { result ≡ None → self.new ≡ self.old }
+        ensures closed { self.new.ended ≡ true }
+    {
+        let (label, evidence, after) = against_in(self.alloc, self.source.ahead())?;
+        let after = after.len();
+        if !self.position.take_against() {
+            return None;
+        }
+        self.source.take_until(after);
+        self.lines += 1;
+        Some((label, evidence))
+    }
+
+    // How much evidence the fail leaf has whose line comes next, where that line stands in the piece of the
+    // file. None, and no change, where it may be another line, or can't stand.
+    fn take_fail(&mut self) -> Option<u32>
+        requires within { IsWithin self.old.source self.old.lines }
+        requires closed { self.old.ended ≡ true }
+        ensures told { IfSome result (λ n. (1 ≤ n) × JudgesHere self.old self.new (line.FailLine n)) }
+        ensures kept { result ≡ None → self.new ≡ self.old }
+        ensures closed { self.new.ended ≡ true }
+    {
+        let (count, after) = lacking_in(self.source.ahead())?;
+        let after = after.len();
+        if !self.position.take_fail(count) {
+            return None;
+        }
+        self.source.take_until(after);
+        self.lines += 1;
+        Some(count)
+    }
+
+    // Hears the line of a fail leaf with evidence, if it stands next in the piece of the file.
+    fn begin(&mut self) -> Result<Hearing, Memory>
+        requires within { IsWithin self.old.source self.old.lines }
+        requires closed { self.old.ended ≡ true }
+        ensures begun { IfOk result (λ h. BeginsHearing self.old self.new (heard_by h)) }
+        ensures closed { self.new.ended ≡ true }
+    {
+        match self.take_fail() {
+            Some(count) => Hearing::begin(self.alloc, count),
+            None => Ok(Hearing::new(self.alloc)),
+        }
+    }
+
     // Judges lines up to the next event.
     fn hear_lines<F: Folder>(&mut self, folder: &mut F, name: &str) -> Result<Event, FeedFault>
         requires within { IsWithin self.old.source self.old.lines }
@@ -132,8 +187,14 @@ impl CertFeed {
             × OneEvent (F.files folder.old) name.now self.old self.new more result }
         ensures closed { self.new.ended ≡ true }
     {
-        let mut hearing = Hearing::new(self.alloc);
+        let mut hearing = self.begin()?;
         loop {
+            if let Some((label, evidence)) = self.take_evidence() {
+                if let Some(event) = hearing.add(self.alloc, label, evidence)? {
+                    return Ok(event);
+                }
+                continue;
+            }
             let (heard, event) = self.hear_line(folder, name, hearing)?;
             if let Some(event) = event {
                 return Ok(event);

@@ -1,5 +1,5 @@
 //! The events of lines.
-ghost use Rattle.std.specs.Prelude.{◌≡◌, IfOk, Some};
+ghost use Rattle.std.specs.Prelude.{◌≡◌, ◌≤◌, IfOk, None, Some};
 ghost use Rattle.cert_text.specs.Heard.{hear, heard_by, silent};
 ghost use Rattle.cert_text.specs.declared.line.Line.TheVariants as line;
 
@@ -9,6 +9,7 @@ use crate::parts::Refuted;
 use pack_model::Memory;
 use response_test::Evidence;
 use std::alloc::Global;
+use std::mem;
 
 /// The evidence of a fail leaf that hasn't ended.
 #[derive(Debug, Drop)]
@@ -28,49 +29,60 @@ impl Hearing {
         }
     }
 
+    /// A fail leaf begins, with so much evidence.
+    pub fn begin(alloc: Global, count: u32) -> Result<Hearing, Memory>
+        requires { 1 ≤ count }
+        ensures { IfOk result (λ h. (heard_by h, None) ≡ hear silent (line.FailLine count)) }
+    {
+        Ok(Hearing {
+            lacking: count - 1,
+            seen: Vec::with_capacity(alloc, count as usize)?,
+        })
+    }
+
     // A fail leaf begins.
-    fn fail(self, alloc: Global, count: u32) -> (Hearing, Option<Event>)
-        ensures { (heard_by result.0, result.1) ≡ hear (heard_by self) (line.FailLine count) }
+    fn fail(alloc: Global, count: u32) -> Result<(Hearing, Option<Event>), Memory>
+        ensures { IfOk result (λ r. (heard_by r.0, r.1) ≡ hear silent (line.FailLine count)) }
     {
         if count == 0 {
-            return (
+            return Ok((
                 Hearing::new(alloc),
                 Some(Event::FailLeaf(Refuted::of(Vec::new(alloc)))),
-            );
+            ));
         }
-        (
-            Hearing {
-                lacking: count - 1,
-                seen: Vec::new(alloc),
-            },
-            None,
-        )
+        Ok((Hearing::begin(alloc, count)?, None))
+    }
+
+    /// Hears a line of evidence, and gives the event that it ends.
+    pub fn add(
+        &mut self,
+        alloc: Global,
+        label: u32,
+        evidence: Evidence,
+    ) -> Result<Option<Event>, Memory>
+        ensures { IfOk result (λ e. (heard_by self.new, e)
+            ≡ hear (heard_by self.old) (line.AgainstLine label evidence)) }
+    {
+        self.seen.push((label, evidence))?;
+        if self.lacking == 0 {
+            let seen = mem::replace(&mut self.seen, Vec::new(alloc));
+            return Ok(Some(Event::FailLeaf(Refuted::of(seen))));
+        }
+        self.lacking -= 1;
+        Ok(None)
     }
 
     // A line of evidence.
     fn against(
-        self,
+        mut self,
         alloc: Global,
         label: u32,
         evidence: Evidence,
     ) -> Result<(Hearing, Option<Event>), Memory>
         ensures { IfOk result (λ r. (heard_by r.0, r.1) ≡ hear (heard_by self) (line.AgainstLine label evidence)) }
     {
-        let Hearing { lacking, mut seen } = self;
-        seen.push((label, evidence))?;
-        if lacking == 0 {
-            return Ok((
-                Hearing::new(alloc),
-                Some(Event::FailLeaf(Refuted::of(seen))),
-            ));
-        }
-        Ok((
-            Hearing {
-                lacking: lacking - 1,
-                seen,
-            },
-            None,
-        ))
+        let event = self.add(alloc, label, evidence)?;
+        Ok((self, event))
     }
 
     /// Hears one more line, and gives the event that it ends.
@@ -78,7 +90,7 @@ impl Hearing {
         ensures { IfOk result (λ r. (heard_by r.0, r.1) ≡ hear (heard_by self) line) }
     {
         let event = match line {
-            Line::FailLine(count) => return Ok(self.fail(alloc, count)),
+            Line::FailLine(count) => return Hearing::fail(alloc, count),
             Line::AgainstLine(label, evidence) => return self.against(alloc, label, evidence),
             Line::FirstLine => None,
             Line::KindLine(kind) => Some(Event::Head(kind)),

@@ -4,6 +4,7 @@
 //! none, and that what [`write_cert`] wrote is read back.
 #![tactic(auto)]
 
+mod against;
 mod builder;
 mod cut;
 mod event;

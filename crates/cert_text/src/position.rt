@@ -267,6 +267,10 @@ fn no_pieces(runs: &[Run]) -> bool
 }
 
 impl Position {
+    ghost use Rattle.std.specs.Prelude.{ℕ};
+    ghost use Rattle.response_test.specs.declared.evidence.Evidence.{Evidence};
+    ghost use Rattle.cert_text.specs.declared.line.Line.TheVariants as line;
+
     /// The position before the first line.
     pub fn new(alloc: Global) -> Result<Position, Memory>
         ensures { IfOk result (λ p. p ≡ start) }
@@ -320,6 +324,49 @@ impl Position {
                 true
             }
         }
+    }
+
+    /// Goes past the line of a fail leaf with so much evidence, where a tree may stand. Nothing changes where
+    /// that isn't told, or for want of memory.
+    pub fn take_fail(&mut self, count: u32) -> bool
+        ensures taken { IsTrue result → after self.old (line.FailLine count) ≡ Some self.new }
+        ensures kept { result ≡ false → self.new ≡ self.old }
+    {
+        let Some(last) = self.runs.len().checked_sub(1) else {
+            return false;
+        };
+        let run = self.runs[last];
+        let Symbol::TreeAt(_, _) = run.symbol else {
+            return false;
+        };
+        if run.count == 0 {
+            return false;
+        }
+        let evidence = Run {
+            symbol: Symbol::Against,
+            count,
+        };
+        put_subtrees(&mut self.runs, last, evidence, less_first(run))
+    }
+
+    /// Goes past a line of evidence, where one may stand. Nothing changes where that isn't told.
+    pub fn take_against(&mut self) -> bool
+        ensures taken { IsTrue result
+            → (label : ℕ) (e : Evidence) → after self.old (line.AgainstLine label e) ≡ Some self.new }
+        ensures kept { result ≡ false → self.new ≡ self.old }
+    {
+        let Some(last) = self.runs.len().checked_sub(1) else {
+            return false;
+        };
+        let run = self.runs[last];
+        let Symbol::Against = run.symbol else {
+            return false;
+        };
+        if run.count == 0 {
+            return false;
+        }
+        put_last(&mut self.runs, last, less_first(run));
+        true
     }
 
     /// How many inner nodes lack subtrees.
