@@ -4,13 +4,13 @@ use Rattle.std.proofs.lemmas.List.Sums.{fold-append}
 use Rattle.pack_model.specs.Problem.{Parts}
 use Rattle.matrix_rows.specs.declared.matrix.MatrixRow.{MatrixRow}
 use Rattle.cert_text.specs.Trees.{Plain, unmark}
-use Rattle.grouping_tree.specs.Grouped.{labels_of}
 use Rattle.grouping_tree.specs.Walk.{places_left}
 use Rattle.cert_check.specs.declared.cert_walk.CertWalk.{CertWalk}
 use Rattle.cert_check.specs.Entries.{Entry, as_event, as_hole}
 use Rattle.cert_check.specs.Holes.{HoleStands, hole_here, holes_in, told_holes}
 use Rattle.cert_check.specs.Joined.{EventTaken, FailedStays, HoleTaken, HolesStay, StandsInFull}
 use Rattle.cert_check.specs.Nodes.{NodesStand, hole, places_after_nodes}
+use Rattle.cert_check.specs.Places.{labels_at}
 use Rattle.cert_check.specs.Said.{Said, and_entry, nothing_said, said_by, with_node}
 use Rattle.cert_check.specs.Taken.{AllStandSaid, IsInTree, Stores, Taken, falls, goal_said, load_in}
 use Rattle.cert_check.specs.Walk.{items_of, places_to_come}
@@ -90,14 +90,14 @@ module _ (problem : Parts) (rows : List MatrixRow) (before after : CertWalk) (s 
   -- the hole has a place
   at_place : (ps : List (List ℕ)) → NodesStand (goal_said problem s.tree) ps (hole t ∷ [])
       → ps ≡ places_to_come problem before.walk
-      → holes_in (goal_said problem s.tree) ps (hole t ∷ []) ≡ (labels_of before.walk.partial, t) ∷ []
+      → holes_in (goal_said problem s.tree) ps (hole t ∷ []) ≡ (labels_at before.walk.place, t) ∷ []
   unfolding NodesStand holes_in
   at_place [] stand same = absurd stand
   at_place (p ∷ ps) stand same = ap (λ q. (q, t) ∷ []) (by before.walk.over same)
     where
-      by : (over : Bool) → p ∷ ps ≡ cond over [] (labels_of before.walk.partial
-          ∷ places_left (items_of problem before.walk) 0 (labels_of before.walk.partial))
-          → p ≡ labels_of before.walk.partial
+      by : (over : Bool) → p ∷ ps ≡ cond over [] (labels_at before.walk.place
+          ∷ places_left (items_of problem before.walk) 0 (labels_at before.walk.place))
+          → p ≡ labels_at before.walk.place
       by true e = absurd cc
       by false e = cc
 
@@ -112,7 +112,7 @@ module _ (problem : Parts) (rows : List MatrixRow) (before after : CertWalk) (s 
       ∙ ap (λ h. told_holes problem s ++ h ∷ []) (λ i. record {
         aim = sym in_tree.aim i;
         values = sym in_tree.used i;
-        place = labels_of before.walk.partial;
+        place = labels_at before.walk.place;
         tree = t;
       })
 

@@ -12,6 +12,7 @@ pub mod KindLaws
 pub mod LemmaLaws
 pub mod Nexts
 pub mod PlaceLaws
+pub mod PlaceSteps
 pub mod SaidLaws
 pub mod SaidTrees
 pub mod StoreLaws

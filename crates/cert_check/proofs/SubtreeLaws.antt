@@ -5,7 +5,6 @@ use Rattle.pack_model.specs.Problem.{Parts}
 use Rattle.matrix_rows.specs.declared.matrix.MatrixRow.{MatrixRow}
 use Rattle.cert_text.specs.CertEvents.{tree_events}
 use Rattle.cert_text.specs.Trees.{Marked, Plain, unmark}
-use Rattle.grouping_tree.specs.Grouped.{labels_of}
 use Rattle.grouping_tree.specs.Walk.{places_left}
 use Rattle.bandwidth_bound.specs.Trees.{TreeStands}
 use Rattle.cert_check.specs.declared.cert_walk.CertWalk.{CertWalk}
@@ -13,6 +12,7 @@ use Rattle.cert_check.specs.declared.placing.Placing.{Placing}
 use Rattle.cert_check.specs.Entries.{Entry, as_event}
 use Rattle.cert_check.specs.Laws.{SubtreeTaken}
 use Rattle.cert_check.specs.Nodes.{NodesStand, TakesTree, nodes_of}
+use Rattle.cert_check.specs.Places.{labels_at}
 use Rattle.cert_check.specs.Said.{Said, and_entry, nothing_said, said_by, with_nodes}
 use Rattle.cert_check.specs.Taken.{AllStandSaid, IsInTree, IsPlaced, Stores, falls, goal_said, load_in, way_in}
 use Rattle.cert_check.specs.Walk.{goal_in, goal_of, items_of, start, way_of}
@@ -26,7 +26,7 @@ module _ (problem : Parts) (rows : List MatrixRow) (before after : CertWalk) (s 
     (stays : falls before ≡ false) (place : before.walk.over ≡ false) where
   -- the place, and those after it
   abbrev here : List ℕ
-  here = labels_of before.walk.partial
+  here = labels_at before.walk.place
 
   abbrev rest : List (List ℕ)
   rest = places_left (items_of problem before.walk) 0 here

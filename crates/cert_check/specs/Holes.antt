@@ -2,7 +2,6 @@
 use Rattle.std.specs.Prelude.{ℕ, All, List, [], ◌∷◌, ◌++◌, map, Option, None, Some}
 use Rattle.std.specs.List.{flat_map}
 use Rattle.pack_model.specs.Problem.{Parts}
-use Rattle.grouping_tree.specs.Grouped.{labels_of}
 use Rattle.cert_text.specs.Trees.{Plain}
 use Rattle.bandwidth_bound.specs.Prices.{lower8_of}
 use Rattle.bandwidth_bound.specs.Trees.{Goal, TreeStands, open_places}
@@ -10,6 +9,7 @@ use Rattle.cert_check.specs.declared.cert_walk.CertWalk.{CertWalk}
 use Rattle.cert_check.specs.declared.walk.Aim.{Aim}
 use Rattle.cert_check.specs.Entries.{Entry}
 use Rattle.cert_check.specs.Nodes.{Node, bound_leaf, fail_leaf, hole, inner_node, lowered, open_leaf, places_of}
+use Rattle.cert_check.specs.Places.{labels_at}
 use Rattle.cert_check.specs.Said.{Said, TreeSaid, said_by}
 use Rattle.cert_check.specs.Taken.{goal_said, load_in}
 use Rattle.cert_check.specs.Walk.{goal_of, values_in, values_used}
@@ -87,6 +87,6 @@ abbrev pub hole_here : Parts → CertWalk → Plain → Hole
 hole_here problem walk tree = record {
   aim = walk.walk.aim;
   values = values_used walk.walk;
-  place = labels_of walk.walk.partial;
+  place = labels_at walk.walk.place;
   tree = tree;
 }

@@ -5,7 +5,6 @@ use Rattle.matrix_rows.specs.declared.matrix.MatrixRow.{MatrixRow}
 use Rattle.matrix_text.specs.Row.{RowInRange}
 use Rattle.cert_text.specs.CertEvents.{tree_events}
 use Rattle.cert_text.specs.Trees.{Marked, unmark}
-use Rattle.grouping_tree.specs.Grouped.{labels_of}
 use Rattle.grouping_tree.specs.Walk.{places_left}
 use Rattle.bandwidth_bound.specs.declared.verdict.Verdict.{Verdict}
 use Rattle.bandwidth_bound.specs.Follows.{Holds}
@@ -13,6 +12,7 @@ use Rattle.bandwidth_bound.specs.Rule.{Accepts, Judged}
 use Rattle.cert_check.specs.declared.cert_walk.CertWalk.{CertWalk}
 use Rattle.cert_check.specs.Entries.{Entry, as_event}
 use Rattle.cert_check.specs.Nodes.{TakesTree}
+use Rattle.cert_check.specs.Places.{labels_at}
 use Rattle.cert_check.specs.Taken.{Taken, falls, way_in}
 use Rattle.cert_check.specs.Walk.{goal_in, items_of}
 
@@ -28,6 +28,6 @@ abbrev pub SubtreeTaken : Type 0
 SubtreeTaken = (problem : Parts) (rows : List MatrixRow) (before after : CertWalk) (entries : List Entry)
     (tree : Marked) → Taken before problem rows entries
     → Taken after problem rows (entries ++ map as_event (tree_events tree)) → falls before ≡ false → before.walk.over ≡ false
-    → TakesTree (goal_in problem before.walk) (labels_of before.walk.partial)
-    (places_left (items_of problem before.walk) 0 (labels_of before.walk.partial)) (way_in problem before)
+    → TakesTree (goal_in problem before.walk) (labels_at before.walk.place)
+    (places_left (items_of problem before.walk) 0 (labels_at before.walk.place)) (way_in problem before)
     (way_in problem after) (unmark tree)

@@ -6,6 +6,7 @@ pub mod Joined
 pub mod Kinds
 pub mod Laws
 pub mod Nodes
+pub mod Places
 pub mod Said
 pub mod Subtree
 pub mod Taken

@@ -2,12 +2,13 @@
 use Rattle.std.specs.Prelude.{◌≡◌, ◌≤◌, List, [], ◌∷◌, ℕ, length, false, Option, None, Some, if◌then◌else◌}
 use Rattle.pack_model.specs.declared.item.Item.{Item}
 use Rattle.pack_model.specs.Problem.{Parts}
-use Rattle.grouping_tree.specs.Grouped.{Belongs, items_in, labels_of, room_of, sender_of}
+use Rattle.grouping_tree.specs.Grouped.{items_in, room_of, sender_of}
 use Rattle.grouping_tree.specs.Walk.{places_left}
 use Rattle.bandwidth_bound.specs.Floors.{AreFloors, HasTables, floors_room}
 use Rattle.bandwidth_bound.specs.Goals.{range_goal}
 use Rattle.bandwidth_bound.specs.Trees.{Goal}
 use Rattle.cert_check.specs.Nodes.{Node, NodeStands, Takes, Way}
+use Rattle.cert_check.specs.Places.{IsPlace, labels_at}
 use Rattle.cert_check.specs.declared.walk.Aim.{Aim}
 use Rattle.cert_check.specs.declared.walk.Walk.{Walk}
 
@@ -34,8 +35,8 @@ items_of problem walk = items_in problem.items walk.aim.range
 
 -- the walk has the memory for each tree of the problem
 pub record IsReady (problem : Parts) (walk : Walk) : Type 0 where
-  pub belongs : Belongs problem walk.partial
-  pub room : length problem.items ≤ room_of walk.partial
+  pub place : IsPlace problem walk.place
+  pub room : length problem.items ≤ room_of walk.place.partial
   pub tables : HasTables walk.floors
   pub tables_room : length problem.items ≤ floors_room walk.floors
   pub senders : length walk.values.items ≡ length problem.senders
@@ -43,13 +44,21 @@ pub record IsReady (problem : Parts) (walk : Walk) : Type 0 where
 -- the walk is over a tree's range, with the tables for its bounds
 pub record IsWalk (problem : Parts) (walk : Walk) : Type 0 where
   pub ready : IsReady problem walk
-  pub sender : sender_of walk.partial ≡ walk.aim.range
+  pub sender : sender_of walk.place.partial ≡ walk.aim.range
   pub floors : AreFloors problem walk.aim.range (values_used walk) walk.floors
 
 -- the walk is over the same tree, with the same values
 pub record Keeps (before after : Walk) : Type 0 where
   pub aim : after.aim ≡ before.aim
   pub values : after.values.items ≡ before.values.items
+
+-- the walk is at the same place, whose labels are all put
+pub record Settles (before after : Walk) : Type 0 where
+  pub keeps : Keeps before after
+  pub failed : after.failed ≡ before.failed
+  pub over : after.over ≡ before.over
+  pub least : after.least ≡ before.least
+  pub labels : labels_at after.place ≡ labels_at before.place
 
 -- the next node has a place
 abbrev pub HasPlace : Walk → Type 0
@@ -59,7 +68,7 @@ HasPlace walk = (walk.failed ≡ false) × (walk.over ≡ false)
 abbrev pub places_to_come : Parts → Walk → List (List ℕ)
 places_to_come problem walk =
     if walk.over then []
-    else labels_of walk.partial ∷ places_left (items_of problem walk) 0 (labels_of walk.partial)
+    else labels_at walk.place ∷ places_left (items_of problem walk) 0 (labels_at walk.place)
 
 -- where the walk is
 abbrev pub way_of : Parts → Walk → Way
@@ -80,12 +89,12 @@ pub record Passes (problem : Parts) (before after : Walk) : Type 0 where
   pub failed : after.failed ≡ before.failed
   pub least : after.least ≡ before.least
   pub places : places_to_come problem after
-      ≡ places_left (items_of problem before) 0 (labels_of before.partial)
+      ≡ places_left (items_of problem before) 0 (labels_at before.place)
 
 -- a node stands at the next place
 abbrev pub StandsNext : Parts → Walk → Node → Type 0
 StandsNext problem walk node =
-    HasPlace walk × NodeStands (goal_in problem walk) (labels_of walk.partial) node
+    HasPlace walk × NodeStands (goal_in problem walk) (labels_at walk.place) node
 
 -- one node took the walk from the one to the other
 abbrev pub TakesOne : Parts → Walk → Walk → Node → Type 0

@@ -6,13 +6,14 @@ ghost use Rattle.cert_text.specs.CertEvents.{cert_events};
 ghost use Rattle.cert_text.specs.Parts.{CertOf, unmark_cert};
 ghost use Rattle.cert_text.specs.PlainTree.{plain_of};
 ghost use Rattle.cert_text.specs.Trees.{Marked, Plain};
-ghost use Rattle.grouping_tree.specs.Grouped.{items_in, labels_of};
+ghost use Rattle.grouping_tree.specs.Grouped.{items_in};
 ghost use Rattle.grouping_tree.specs.Partial.{IsPartial};
 ghost use Rattle.bandwidth_bound.specs.Follows.{Holds};
 ghost use Rattle.bandwidth_bound.specs.Rule.{MatrixOfKind, TimingOfKind};
 ghost use Rattle.cert_check.specs.Accept.{IsFound, judged_of};
 ghost use Rattle.cert_check.specs.Entries.{Entry, as_event, as_hole};
 ghost use Rattle.cert_check.specs.Nodes.{bound_leaf, fail_leaf, hole, inner_node, lowered, nodes_of, open_leaf};
+ghost use Rattle.cert_check.specs.Places.{labels_at};
 ghost use Rattle.cert_check.specs.Said.{Said, and_said, lemma_begun, main_begun, said_by, with_end, with_kind, with_line, with_node, with_nodes};
 ghost use Rattle.cert_check.specs.Trees.{HasRoom, lower_with};
 ghost use Rattle.cert_check.specs.Taken.{HasOwnParts, IsClosed, IsOpen, ComesNext, HasStored, HasTaken, IsShowing, Stores, StoresMore, Taken, falls, load_in, one_more};
@@ -145,7 +146,7 @@ impl CertWalk {
     pub fn path(&self) -> &[u32]
         requires stored { (problem : Parts) × HasStored problem self.now }
         requires stands { falls self.now ≡ false }
-        ensures value { result.now ≡ labels_of self.now.walk.partial }
+        ensures value { result.now ≡ labels_at self.now.walk.place }
         ensures legal { (problem : Parts) → HasStored problem self.now
             → IsPartial (items_in problem.items self.now.walk.aim.range) result.now }
     {

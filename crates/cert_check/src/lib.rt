@@ -14,6 +14,7 @@ mod check;
 mod fault;
 mod kinds;
 mod laws;
+mod node_place;
 mod one_pass;
 mod placing;
 mod subtree;

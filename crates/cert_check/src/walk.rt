@@ -3,14 +3,15 @@ ghost use Rattle.std.specs.Prelude.{◌≡◌, ◌<◌, ◌∷◌, [], ◌↔◌
 ghost use Rattle.cert_text.specs.Trees.{Plain};
 ghost use Rattle.bandwidth_bound.specs.Goals.{ClassesFail};
 ghost use Rattle.bandwidth_bound.specs.Prices.{lower8_of};
-ghost use Rattle.grouping_tree.specs.Grouped.{Belongs, items_in, labels_of, range_of, room_of, sender_of};
+ghost use Rattle.grouping_tree.specs.Grouped.{items_in, range_of};
 ghost use Rattle.grouping_tree.specs.Partial.{IsPartial};
 ghost use Rattle.pack_model.specs.Problem.{Parts};
 ghost use Rattle.cert_check.specs.Nodes.{IsSplit, lowered, inner_node, bound_leaf, open_leaf, fail_leaf, hole};
-ghost use Rattle.cert_check.specs.Walk.{HasPlace, IsReady, IsWalk, Keeps, Passes, StandsNext, TakesOne, items_of, start, start_at, values_in, values_used, way_of};
+ghost use Rattle.cert_check.specs.Places.{IsOver, IsPlace, labels_at};
+ghost use Rattle.cert_check.specs.Walk.{HasPlace, IsReady, IsWalk, Keeps, Passes, Settles, StandsNext, TakesOne, items_of, start, start_at, values_in, values_used, way_of};
 
+use crate::node_place::NodePlace;
 use bandwidth_bound::{Floors, refutes};
-use grouping_tree::Partial;
 use pack_model::{Memory, Problem};
 use response_test::Evidence;
 use std::alloc::Global;
@@ -49,18 +50,16 @@ fn values_in(range: Option<u32>, values: &[u128]) -> &[u128]
 }
 
 /// Gives the first items the labels of a partial grouping, where none has a label yet.
-fn put_each(partial: &mut Partial, problem: &Problem, labels: &[u32])
-    requires belongs { Belongs problem.now partial.old }
-    requires none { labels_of partial.old ≡ [] }
-    requires legal { IsPartial (range_of problem.now partial.old) labels.now }
-    ensures belongs { Belongs problem.now partial.new }
-    ensures labels { labels_of partial.new ≡ labels.now }
-    ensures range { range_of problem.now partial.new ≡ range_of problem.now partial.old }
-    ensures sender { sender_of partial.new ≡ sender_of partial.old }
-    ensures room { room_of partial.new ≡ room_of partial.old }
+fn put_each(place: &mut NodePlace, problem: &Problem, labels: &[u32])
+    requires place { IsPlace problem.now place.old }
+    requires none { labels_at place.old ≡ [] }
+    requires legal { IsPartial (range_of problem.now place.old.partial) labels.now }
+    ensures place { IsPlace problem.now place.new }
+    ensures labels { labels_at place.new ≡ labels.now }
+    ensures over { IsOver problem.now place.old place.new }
 {
     for &label in labels {
-        partial.put(problem, label);
+        place.put(problem, label);
     }
 }
 
@@ -73,7 +72,7 @@ pub struct Walk {
     /// The values of the lemmas so far by sender, in eighths of ticks a common period, 0 where there is none.
     values: Vec<u128>,
     /// The place of the next node.
-    partial: Partial,
+    place: NodePlace,
     /// What the items that are not placed cost at least.
     floors: Floors,
     /// No node is to come.
@@ -98,7 +97,7 @@ impl Walk {
                 may_leave: false,
             },
             values: vec![in alloc; 0; problem.senders().len()]?,
-            partial: Partial::whole(alloc, problem)?,
+            place: NodePlace::new(alloc, problem)?,
             floors: Floors::new(alloc, problem)?,
             over: true,
             failed: false,
@@ -129,8 +128,8 @@ impl Walk {
         ensures aim { self.new.aim ≡ aim }
         ensures values { self.new.values.items ≡ self.old.values.items }
     {
-        self.partial.restart(problem, aim.range);
-        put_each(&mut self.partial, problem, place);
+        self.place.restart(problem, aim.range);
+        put_each(&mut self.place, problem, place);
         let values = values_in(aim.range, self.values.as_slice());
         self.floors.fill(problem, aim.range, values);
         self.aim = aim;
@@ -192,9 +191,19 @@ impl Walk {
     /// The labels of the place of the next node.
     pub fn place(&self) -> &[u32]
         requires { (problem : Parts) × IsWalk problem self.now }
-        ensures { result.now ≡ labels_of self.now.partial }
+        ensures { result.now ≡ labels_at self.now.place }
     {
-        self.partial.labels()
+        self.place.labels()
+    }
+
+    /// Puts all labels of the place.
+    fn settle(&mut self, problem: &Problem)
+        requires { IsWalk problem.now self.old }
+        ensures walks { IsWalk problem.now self.new }
+        ensures settles { Settles self.old self.new }
+        ensures put { self.new.place.ahead ≡ None }
+    {
+        self.place.settle(problem);
     }
 
     /// Whether the next node has a place.
@@ -209,35 +218,38 @@ impl Walk {
         requires { (problem : Parts) × IsWalk problem self.now }
         ensures { (problem : Parts) → IsWalk problem self.now
             → result ≡ lower8_of problem (values_used self.now) (items_of problem self.now)
-            (labels_of self.now.partial) }
+            (labels_at self.now.place) }
     {
-        self.floors.lower8(&self.partial)
+        self.place.lower8(&self.floors)
     }
 
     /// Whether the classes that are named with evidence are refuted at the place.
     fn refutes(&self, problem: &Problem, named: &[(u32, Evidence)]) -> bool
         requires walks { IsWalk problem.now self.now }
         requires whole { self.now.aim.range ≡ None }
-        ensures { IsTrue result ↔ ClassesFail problem.now (labels_of self.now.partial) named.now }
+        requires put { self.now.place.ahead ≡ None }
+        ensures { IsTrue result ↔ ClassesFail problem.now (labels_at self.now.place) named.now }
     {
         let bit = u64::from(problem.network().nominal_ticks);
-        refutes(self.partial.frames(), bit, problem.hyper(), named)
+        refutes(self.place.partial.frames(), bit, problem.hyper(), named)
     }
 
     /// Whether an item is left, and as many labels may be put next as there are subtrees.
     fn is_split(&self, problem: &Problem, subtrees: usize) -> bool
-        requires { IsWalk problem.now self.now }
-        ensures { IsTrue result ↔ IsSplit (items_of problem.now self.now) (labels_of self.now.partial) subtrees }
+        requires walks { IsWalk problem.now self.now }
+        requires put { self.now.place.ahead ≡ None }
+        ensures { IsTrue result ↔ IsSplit (items_of problem.now self.now) (labels_at self.now.place) subtrees }
     {
         if subtrees == 0 {
             return false;
         }
-        subtrees == self.partial.options(problem) as usize
+        subtrees == self.place.partial.options(problem) as usize
     }
 
     /// Whether an inner node with so many subtrees stands at the next place.
     fn inner_stands(&self, problem: &Problem, subtrees: usize) -> bool
-        requires { IsWalk problem.now self.now }
+        requires walks { IsWalk problem.now self.now }
+        requires put { self.now.place.ahead ≡ None }
         ensures { IsTrue result ↔ StandsNext problem.now self.now (inner_node subtrees) }
     {
         self.has_place() && self.is_split(problem, subtrees)
@@ -263,7 +275,8 @@ impl Walk {
 
     /// Whether a fail leaf stands at the next place: over one sender's items none does.
     fn fail_stands(&self, problem: &Problem, named: &[(u32, Evidence)]) -> bool
-        requires { IsWalk problem.now self.now }
+        requires walks { IsWalk problem.now self.now }
+        requires put { self.now.place.ahead ≡ None }
         ensures { IsTrue result ↔ StandsNext problem.now self.now (fail_leaf named.now) }
     {
         match self.aim.range {
@@ -280,7 +293,7 @@ impl Walk {
         ensures keeps { Keeps self.old self.new }
         ensures passes { Passes problem.now self.old self.new }
     {
-        self.over = !self.partial.leave(problem, 0);
+        self.over = !self.place.leave(problem);
     }
 
     /// Takes an inner node with so many subtrees.
@@ -290,11 +303,12 @@ impl Walk {
         ensures keeps { Keeps self.old self.new }
         ensures takes { TakesOne problem.now self.old self.new (inner_node subtrees) }
     {
+        self.settle(problem);
         if !self.inner_stands(problem, subtrees) {
             self.failed = true;
             return;
         }
-        self.partial.enter(problem);
+        self.place.enter(problem);
     }
 
     /// Takes a bound leaf.
@@ -334,6 +348,7 @@ impl Walk {
         ensures keeps { Keeps self.old self.new }
         ensures takes { TakesOne problem.now self.old self.new (fail_leaf named.now) }
     {
+        self.settle(problem);
         if !self.fail_stands(problem, named) {
             self.failed = true;
             return;
