@@ -2,13 +2,16 @@
 ghost use Rattle.std.specs.Prelude.{◌≡◌, ◌∷◌, IfSome};
 ghost use Rattle.cert_text.specs.Evidences.{BeginsAgainst, BeginsFail, BlankNumbers, EndNumbers};
 
-use crate::number::number_until;
+use crate::number::{number_ended, number_until};
 use pack_model::Chain;
 use response_test::Evidence;
 use std::alloc::Global;
 
-/// For how many numbers there is room at first.
-const FEW: usize = 8;
+/// For how many times of a busy period there is room at first. Most evidence has one.
+const FEW: usize = 3;
+/// For how many further times there is room at first. The two differ so that the allocator keeps the memory of each
+/// apart from that of the other.
+const SOME: usize = 6;
 
 // Numbers with a blank behind each, and the bytes after them. None for want of memory.
 fn blank_numbers(alloc: Global, bytes: &[u8]) -> Option<(Vec<u64>, &[u8])>
@@ -31,12 +34,21 @@ fn blank_numbers(alloc: Global, bytes: &[u8]) -> Option<(Vec<u64>, &[u8])>
 fn end_numbers(alloc: Global, bytes: &[u8]) -> Option<(Vec<u64>, &[u8])>
     ensures { IfSome result (λ x. EndNumbers bytes.now x.0.items x.1.now) }
 {
-    let (mut numbers, left) = blank_numbers(alloc, bytes)?;
-    let (last, after) = number_until(left, b'\n')?;
-    let Ok(()) = numbers.push(last) else {
+    let Ok(mut numbers) = Vec::with_capacity(alloc, SOME) else {
         return None;
     };
-    Some((numbers, after))
+    let mut left = bytes;
+    while let Some((number, end, after)) = number_ended(left) {
+        let Ok(()) = numbers.push(number) else {
+            return None;
+        };
+        match end {
+            b' ' => left = after,
+            b'\n' => return Some((numbers, after)),
+            _ => return None,
+        }
+    }
+    None
 }
 
 // After `over`.

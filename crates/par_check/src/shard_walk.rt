@@ -264,7 +264,7 @@ impl ShardWalk {
     /// The first part of the rule that fails: `RejectedMatrix`, `RejectedTiming` or `RejectedTree`; `Memory` where
     /// memory runs out.
     pub fn finish<R: Threads + Sync, G: Gate + Sync>(
-        &mut self,
+        mut self,
         rt: &R,
         problem: &Problem,
         workers: u32,
@@ -272,9 +272,9 @@ impl ShardWalk {
     ) -> Result<Verdict, CheckFault>
         requires some { 1 ≤ workers }
         requires few { workers ≤ 64 }
-        requires taken { HasShards problem.now self.old }
+        requires taken { HasShards problem.now self }
         ensures { (rows : List MatrixRow) (marked : CertOf Marked) → HasOwnParts (unmark_cert marked)
-            → ShardsBegun problem.now rows self.old (cert_events marked)
+            → ShardsBegun problem.now rows self (cert_events marked)
             → IsFoundHolding problem.now rows (unmark_cert marked) result }
     {
         self.judge(rt, problem, workers, gate)?;

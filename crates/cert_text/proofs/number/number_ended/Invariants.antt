@@ -1,5 +1,5 @@
 use Rattle.cert_text.proofs.Numbers.{IsSpelledSoFar}
-use Rattle.cert_text.proofs.number.number_until.Given as goal
+use Rattle.cert_text.proofs.number.number_ended.Given as goal
 
 -- the digits so far
 abbrev pub invariant-loop-place : goal.invariant-loop-place
