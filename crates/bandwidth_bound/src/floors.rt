@@ -68,6 +68,7 @@ impl Floors {
     /// The lower bound once the next item has a label, one that may be put next, in eighths of ticks a common
     /// period, for every problem and all values of lemmas that the tables are of. It takes no memory, and goes
     /// over nothing.
+    #[inline(always)]
     pub fn lower8_ahead(&self, partial: &Partial, label: u32) -> u128
         requires { (problem : Parts) × (values : List ℕ) × Belongs problem partial.now
             × IsPartial (range_of problem partial.now) (labels_of partial.now ++ label ∷ [])
@@ -127,6 +128,7 @@ impl Rest {
 
     /// The lower bound after which this is left, where the loads of the classes come to `load` ticks a common
     /// period, and the slacks of those of the sender in work to `slack` eighths of ticks.
+    #[inline(always)]
     pub fn lower8(self, load: u128, slack: u128) -> u128
         requires { 8 * load < 2 ^ 128 }
         ensures { (problem : Parts) (values : List ℕ) (items : List Item) (labels : List ℕ)

@@ -43,6 +43,7 @@ impl Fill {
     }
 
     /// Of two lists of items, one after the other.
+    #[inline(always)]
     pub(crate) fn join(self, other: Fill) -> Fill
         requires pdus { self.pdus + other.pdus ≤ 128 }
         requires weight { self.weight + other.weight ≤ 65536 }
@@ -58,6 +59,7 @@ impl Fill {
 
     /// Whether items of one sender, all free or all I-PDUs, and others are of one sender and all free or all
     /// I-PDUs.
+    #[inline(always)]
     pub(crate) fn is_like(self, other: Fill) -> bool
         ensures { IsTrue result ↔ AreAlike self other }
     {
@@ -87,6 +89,7 @@ impl Fill {
     }
 
     /// The header before each of the I-PDUs in one frame, in bytes.
+    #[inline(always)]
     fn header_bytes(self) -> u32
         ensures few { result ≤ 8 }
         ensures value { (problem : Parts) (items : List Item) → IsFill problem items self
@@ -102,6 +105,7 @@ impl Fill {
     }
 
     /// The bytes of the items in one frame, with headers, where they are all free or all I-PDUs.
+    #[inline(always)]
     pub(crate) fn frame_bytes(self) -> u32
         requires { self.pdus ≤ 128 }
         ensures { (problem : Parts) (items : List Item) → IsFill problem items self → AreOneKind items
@@ -167,6 +171,7 @@ impl Class {
     }
 
     /// Of the items and one more, where they take `fill` together and their frame is so long.
+    #[inline(always)]
     pub(crate) fn join(
         &self,
         next: &Class,
@@ -197,6 +202,7 @@ impl Class {
     }
 
     /// The ticks of its frame in a common period.
+    #[inline(always)]
     pub(crate) fn load(&self) -> u128
         ensures { (problem : Parts) (items : List Item) → IsClass problem items self.now
             → result ≡ load_of_items problem items }
@@ -205,6 +211,7 @@ impl Class {
     }
 
     /// The ticks of its frame's free bits in a common period, in eighths.
+    #[inline(always)]
     pub(crate) fn slack(&self) -> u128
         ensures { (problem : Parts) (items : List Item) → IsClass problem items self.now
             → result ≡ slack_of problem items }
@@ -214,6 +221,7 @@ impl Class {
 }
 
 /// The ticks of a frame's free bits, in eighths: of a data length of so many bytes and items of a weight.
+#[inline(always)]
 fn free_ticks(network: &Network, size: u32, weight: u32) -> u64
     requires stands { NetworkStands network.now }
     requires size { size ≤ 64 }

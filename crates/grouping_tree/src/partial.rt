@@ -253,6 +253,7 @@ impl Partial {
     }
 
     /// What is kept of the next item of the range as a class of its own.
+    #[inline(always)]
     fn next_alone(&self) -> &Class
         requires { (problem : Parts) × Belongs problem self.now
             × (length (labels_of self.now) < length (range_of problem self.now)) }
@@ -262,6 +263,7 @@ impl Partial {
     }
 
     /// Whether the next item may get a used label.
+    #[inline(always)]
     fn may_put(&self, label: u32, next: &Class) -> bool
         requires next { (problem : Parts) × Belongs problem self.now × IsNext problem self.now next.now }
         requires used { IsUsed self.now label }
@@ -272,6 +274,7 @@ impl Partial {
     }
 
     /// What is kept of the class of a label.
+    #[inline(always)]
     fn kept_of(&self, label: u32) -> &Class
         requires belongs { (problem : Parts) × Belongs problem self.now }
         requires low { label < room_of self.now }
@@ -302,6 +305,7 @@ impl Partial {
     }
 
     /// What is kept of the class of a label, one that may be put next, once the next item has it too.
+    #[inline(always)]
     fn own_with(&self, label: u32, next: &Class) -> Class
         requires { (problem : Parts) × Belongs problem self.now × IsNext problem self.now next.now
             × IsPartial (range_of problem self.now) (labels_of self.now ++ label ∷ []) }
@@ -319,6 +323,7 @@ impl Partial {
     }
 
     /// What all classes come to then, where this is what is kept of the class of the label.
+    #[inline(always)]
     fn all_with(&self, label: u32, next: &Class, own: &Class) -> Ahead
         requires { (problem : Parts) × Belongs problem self.now × IsNext problem self.now next.now
             × IsPartial (range_of problem self.now) (labels_of self.now ++ label ∷ [])
@@ -351,6 +356,7 @@ impl Partial {
     }
 
     /// The least label that the next item may get: those below are of classes of earlier senders.
+    #[inline(always)]
     fn first_option(&self, next: &Class) -> u32
         requires { (problem : Parts) × Belongs problem self.now × IsNext problem self.now next.now }
         ensures { (problem : Parts) → Belongs problem self.now → IsNext problem self.now next.now → (label : ℕ)
@@ -464,6 +470,7 @@ impl Partial {
 
     /// What all classes come to once the next item has a label, one that may be put next, for every problem
     /// to which the partial grouping belongs. It takes no memory and changes nothing.
+    #[inline(always)]
     pub fn ahead(&self, label: u32) -> Ahead
         requires { (problem : Parts) × Belongs problem self.now
             × IsPartial (range_of problem self.now) (labels_of self.now ++ label ∷ []) }

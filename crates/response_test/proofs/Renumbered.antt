@@ -1,7 +1,7 @@
 -- Frames numbered anew in the order in which they are judged: what is shown of them stays shown.
-use Rattle.std.proofs.Common.{◌≡◌, ℕ, ◌+◌, ◌*◌, ◌<◌, ◌≤◌, List, [], ◌∷◌, length, take, drop, get_or, max, refl, sym, ap, ◌∙◌, subst, arith}
+use Rattle.std.proofs.Common.{◌≡◌, ℕ, ◌+◌, ◌<◌, List, [], ◌∷◌, length, take, drop, max, refl, sym, ap, ◌∙◌, subst, arith}
 use Rattle.std.specs.Prelude.{slice_index, map, sum_by}
-use Rattle.std.proofs.lemmas.List.{length-map, get_or-map, take-map, drop-map, ext_get_or, get_or_default}
+use Rattle.std.proofs.lemmas.List.{length-map, get_or-map, take-map, drop-map, ext_get_or}
 use Rattle.std.proofs.lemmas.List.Sums.{sum_by-cons}
 use Rattle.busy_period.specs.declared.timed.Timed.{Timed}
 use Rattle.busy_period.specs.Timed.{none_frame, frame_at}

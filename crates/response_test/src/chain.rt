@@ -15,17 +15,24 @@ use std::alloc::Global;
 /// The greatest time that a chain may have, in ticks.
 pub(crate) const MAX_TIME: u64 = 1 << 45;
 
-/// What comes before an instance of the frame at `place` besides higher frames: blocking, and the frame's instances
-/// before it. `instance` is at most 2^45.
-pub(crate) fn base_of(frames: &[Timed], order: &[u32], place: usize, instance: u64) -> u128
+/// What comes before an instance of the frame at `place` besides higher frames: `blocked`, the blocking by lower ones, and
+/// the frame's instances before it. `instance` is at most 2^45.
+pub(crate) fn base_of(
+    frames: &[Timed],
+    order: &[u32],
+    place: usize,
+    blocked: u64,
+    instance: u64,
+) -> u128
     requires stage { IsStage frames.now order.now place }
+    requires blocked { blocked ≡ blocking_of frames.now (lower_of order.now place) }
     requires instance { instance ≤ 2 ^ 45 }
     ensures value { result
         ≡ blocking_of frames.now (lower_of order.now place) + instance * (own_of frames.now order.now place).ticks }
     ensures bound { result ≤ 2 ^ 80 }
 {
     let own = frames[order[place] as usize];
-    u128::from(blocking(frames, order, place)) + u128::from(instance) * u128::from(own.ticks)
+    u128::from(blocked) + u128::from(instance) * u128::from(own.ticks)
 }
 
 /// The last of `times`, where they are a chain from `first` by `base` and what the frames of these numbers ask for up
@@ -58,38 +65,43 @@ fn end_of_chain(
     Some(times[times.len() - 1])
 }
 
-/// The last of `times`, where they are a chain from 1 by the demand at the level of the frame at `place`; else None.
+/// The last of `times`, where they are a chain from 1 by the demand at the level of the frame at `place`, which lower ones
+/// block for `blocked` ticks; else None.
 pub(crate) fn end_of_level_chain(
     frames: &[Timed],
     order: &[u32],
     place: usize,
+    blocked: u64,
     times: &[u64],
 ) -> Option<u64>
     requires stage { IsStage frames.now order.now place }
+    requires blocked { blocked ≡ blocking_of frames.now (lower_of order.now place) }
     ensures { SomeIff result (IsChain (demand_of frames.now order.now place) 1 times.now) (last_of times.now) }
 {
-    let base = base_of(frames, order, place, 0);
+    let base = base_of(frames, order, place, blocked, 0);
     end_of_chain(frames, &order[..place + 1], base, 0, 1, times)
 }
 
-/// The last of `times`, where they are a chain from 0 by the demand before an instance of the frame at `place`; else
-/// None. `instance` is at most 2^45.
+/// The last of `times`, where they are a chain from 0 by the demand before an instance of the frame at `place`, which
+/// lower ones block for `blocked` ticks; else None. `instance` is at most 2^45.
 pub(crate) fn end_of_queue_chain(
     frames: &[Timed],
     order: &[u32],
     place: usize,
+    blocked: u64,
     bit: u64,
     instance: u64,
     times: &[u64],
 ) -> Option<u64>
     requires stage { IsStage frames.now order.now place }
+    requires blocked { blocked ≡ blocking_of frames.now (lower_of order.now place) }
     requires bit { IsBit frames.now bit }
     requires instance { instance ≤ 2 ^ 45 }
     ensures { SomeIff result
         (IsChain (queueing_of frames.now order.now place bit instance) 0 times.now)
         (last_of times.now) }
 {
-    let base = base_of(frames, order, place, instance);
+    let base = base_of(frames, order, place, blocked, instance);
     end_of_chain(frames, &order[..place], base, bit, 0, times)
 }
 
@@ -141,7 +153,8 @@ pub(crate) fn level_climb(
     requires none { (time : ℕ) → IsBusy (demand_of frames.now order.now place) time → until ≤ time }
     ensures { IfOk result (IsClimb (λ time. min (demand_of frames.now order.now place time) cap) 1 until) }
 {
-    let base = base_of(frames, order, place, 0);
+    let blocked = blocking(frames, order, place);
+    let base = base_of(frames, order, place, blocked, 0);
     climb(alloc, frames, &order[..place + 1], base, 0, 1, until, cap)
 }
 
@@ -164,7 +177,8 @@ pub(crate) fn queue_climb(
     ensures { IfOk result
         (IsClimb (λ time. min (queueing_of frames.now order.now place bit instance time) (2 ^ 45)) 0 until) }
 {
-    let base = base_of(frames, order, place, instance);
+    let blocked = blocking(frames, order, place);
+    let base = base_of(frames, order, place, blocked, instance);
     climb(
         alloc,
         frames,

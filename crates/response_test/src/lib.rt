@@ -29,6 +29,6 @@ pub use laws::{
     queueing_never_falls, shown_numbers_pass, test_depends_on_sets,
 };
 pub use queue::least_queue;
-pub use refutation::{evidence_denies_passing, refuted};
+pub use refutation::{evidence_denies_passing, refuted, refuted_blocked};
 pub use stage_evidence::{evidence_of, stage_has_one_evidence};
 pub use written::{last_passes, passes, worst_response};

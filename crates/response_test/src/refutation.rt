@@ -1,6 +1,7 @@
 //! Whether evidence stands, by its numbers alone.
 ghost use Rattle.std.specs.Prelude.{◌≡◌, ◌↔◌, ℕ, IsTrue, List};
-ghost use Rattle.busy_period.specs.Stage.{AreNamed, IsStage};
+ghost use Rattle.busy_period.specs.Stage.{AreNamed, IsStage, lower_of};
+ghost use Rattle.busy_period.specs.Demand.{blocking_of};
 ghost use Rattle.busy_period.specs.declared.timed.Timed.{Timed};
 ghost use Rattle.response_test.specs.Queueing.{IsBit};
 ghost use Rattle.response_test.specs.Frame.{FramePasses};
@@ -9,7 +10,7 @@ ghost use Rattle.response_test.specs.Refuted.{IsCommon, IsOver, IsLong, IsLate, 
 
 use crate::chain::{MAX_TIME, end_of_level_chain, end_of_queue_chain};
 use crate::evidence::Evidence;
-use busy_period::{MAX_INSTANCES, Timed};
+use busy_period::{MAX_INSTANCES, Timed, blocking};
 
 /// The ticks that the frames of these numbers send within a common period of `hyper` ticks.
 fn sent(frames: &[Timed], numbers: &[u32], hyper: u64) -> u128
@@ -35,12 +36,13 @@ pub(crate) fn is_over(frames: &[Timed], order: &[u32], place: usize, hyper: u64)
 }
 
 /// Whether `chain` climbs past the limit of 256 instances.
-fn is_long(frames: &[Timed], order: &[u32], place: usize, chain: &[u64]) -> bool
-    requires { IsStage frames.now order.now place }
+fn is_long(frames: &[Timed], order: &[u32], place: usize, blocked: u64, chain: &[u64]) -> bool
+    requires stage { IsStage frames.now order.now place }
+    requires blocked { blocked ≡ blocking_of frames.now (lower_of order.now place) }
     ensures { IsTrue result ↔ IsLong frames.now order.now place chain.now }
 {
     let own = frames[order[place] as usize];
-    let Some(last) = end_of_level_chain(frames, order, place, chain) else {
+    let Some(last) = end_of_level_chain(frames, order, place, blocked, chain) else {
         return false;
     };
     last + own.jitter > MAX_INSTANCES * own.period
@@ -52,12 +54,14 @@ fn is_late(
     frames: &[Timed],
     order: &[u32],
     place: usize,
+    blocked: u64,
     bit: u64,
     instance: u64,
     busy: &[u64],
     queue: &[u64],
 ) -> bool
     requires stage { IsStage frames.now order.now place }
+    requires blocked { blocked ≡ blocking_of frames.now (lower_of order.now place) }
     requires bit { IsBit frames.now bit }
     ensures { IsTrue result ↔ IsLate frames.now order.now place bit instance busy.now queue.now }
 {
@@ -66,14 +70,51 @@ fn is_late(
     }
     let own = frames[order[place] as usize];
     let arrival = u128::from(instance) * u128::from(own.period);
-    let Some(time) = end_of_level_chain(frames, order, place, busy) else {
+    let Some(time) = end_of_level_chain(frames, order, place, blocked, busy) else {
         return false;
     };
-    let Some(start) = end_of_queue_chain(frames, order, place, bit, instance, queue) else {
+    let Some(start) = end_of_queue_chain(frames, order, place, blocked, bit, instance, queue) else {
         return false;
     };
     u128::from(time + own.jitter) > arrival
         && u128::from(own.jitter + start + own.ticks) > u128::from(own.deadline) + arrival
+}
+
+/// Whether the frame at `place`, which lower ones block for `blocked` ticks, is refuted by the evidence: it reads the
+/// numbers, and searches nothing. `hyper` is a
+/// multiple of each period, from 1 to 10^15. A chain begins with 1 for the frame's level and with 0 for the instance's
+/// start, and each further time is at most the demand at the one before. A number of an instance or a time above 2^45
+/// makes the answer false.
+pub fn refuted_blocked(
+    frames: &[Timed],
+    order: &[u32],
+    place: usize,
+    blocked: u64,
+    bit: u64,
+    hyper: u64,
+    evidence: &Evidence,
+) -> bool
+    requires stage { IsStage frames.now order.now place }
+    requires blocked { blocked ≡ blocking_of frames.now (lower_of order.now place) }
+    requires bit { IsBit frames.now bit }
+    requires hyper { IsCommon frames.now hyper }
+    ensures value { IsTrue result ↔ Refuted frames.now order.now place bit hyper evidence.now }
+    ensures fails { IsTrue result → ¬ (FramePasses frames.now order.now place bit) }
+{
+    match evidence {
+        Evidence::Over => is_over(frames, order, place, hyper),
+        Evidence::Long(chain) => is_long(frames, order, place, blocked, chain.as_slice()),
+        Evidence::Late { q, busy, queue } => is_late(
+            frames,
+            order,
+            place,
+            blocked,
+            bit,
+            *q,
+            busy.as_slice(),
+            queue.as_slice(),
+        ),
+    }
 }
 
 /// Whether the frame at `place` is refuted by the evidence: it reads the numbers, and searches nothing. `hyper` is a
@@ -94,19 +135,8 @@ pub fn refuted(
     ensures value { IsTrue result ↔ Refuted frames.now order.now place bit hyper evidence.now }
     ensures fails { IsTrue result → ¬ (FramePasses frames.now order.now place bit) }
 {
-    match evidence {
-        Evidence::Over => is_over(frames, order, place, hyper),
-        Evidence::Long(chain) => is_long(frames, order, place, chain.as_slice()),
-        Evidence::Late { q, busy, queue } => is_late(
-            frames,
-            order,
-            place,
-            bit,
-            *q,
-            busy.as_slice(),
-            queue.as_slice(),
-        ),
-    }
+    let blocked = blocking(frames, order, place);
+    refuted_blocked(frames, order, place, blocked, bit, hyper, evidence)
 }
 
 /// A law: evidence that stands denies that the frame passes.

@@ -1,5 +1,5 @@
 use Rattle.response_test.proofs.Denials.{over_denies, long_denies, late_denies}
-use Rattle.response_test.proofs.refutation.refuted.Goals as goal
+use Rattle.response_test.proofs.refutation.refuted_blocked.Goals as goal
 
 -- each kind of evidence denies passing
 pub returns-in-Over-clause-fails : goal.returns-in-Over-clause-fails
