@@ -78,6 +78,7 @@ impl NodePlace {
     }
 
     /// Puts the last label too.
+    #[inline(always)]
     pub fn settle(&mut self, problem: &Problem)
         requires { IsPlace problem.now self.old }
         ensures place { IsPlace problem.now self.new }
@@ -92,6 +93,7 @@ impl NodePlace {
     }
 
     /// Notes the label that comes next, one that may be put.
+    #[inline(always)]
     fn go_down(&mut self, problem: &Problem, label: u32)
         requires place { IsPlace problem.now self.old }
         requires put { self.old.ahead ≡ None }
@@ -106,6 +108,7 @@ impl NodePlace {
     }
 
     /// Takes the last label away and answers it.
+    #[inline(always)]
     fn take_last(&mut self, problem: &Problem) -> u32
         requires place { IsPlace problem.now self.old }
         requires some { 0 < length (labels_at self.old) }
@@ -129,6 +132,7 @@ impl NodePlace {
     }
 
     /// Whether it has no labels.
+    #[inline(always)]
     fn is_root(&self) -> bool
         requires { (problem : Parts) × IsPlace problem self.now }
         ensures { IsTrue result ↔ (labels_at self.now ≡ []) }
@@ -158,6 +162,7 @@ impl NodePlace {
     }
 
     /// Goes to the next place in preorder that is not below this one; false where there is none.
+    #[inline(always)]
     pub fn leave(&mut self, problem: &Problem) -> bool
         requires { IsPlace problem.now self.old }
         ensures place { IsPlace problem.now self.new }
@@ -180,6 +185,7 @@ impl NodePlace {
 
     /// The lower bound at the place, in eighths of ticks a common period, for every problem and all values of
     /// lemmas that the tables are of.
+    #[inline(always)]
     pub fn lower8(&self, floors: &Floors) -> u128
         requires { (problem : Parts) × (values : List ℕ) × IsPlace problem self.now
             × AreFloors problem (sender_of self.now.partial) values floors.now }

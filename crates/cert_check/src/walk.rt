@@ -197,6 +197,7 @@ impl Walk {
     }
 
     /// Puts all labels of the place.
+    #[inline(always)]
     fn settle(&mut self, problem: &Problem)
         requires { IsWalk problem.now self.old }
         ensures walks { IsWalk problem.now self.new }
@@ -207,6 +208,7 @@ impl Walk {
     }
 
     /// Whether the next node has a place.
+    #[inline(always)]
     fn has_place(&self) -> bool
         ensures { IsTrue result ↔ HasPlace self.now }
     {
@@ -214,6 +216,7 @@ impl Walk {
     }
 
     /// The lower bound at the place, in eighths of ticks a common period.
+    #[inline(always)]
     fn lower8(&self) -> u128
         requires { (problem : Parts) × IsWalk problem self.now }
         ensures { (problem : Parts) → IsWalk problem self.now
@@ -256,6 +259,7 @@ impl Walk {
     }
 
     /// Whether a bound leaf stands at the next place.
+    #[inline(always)]
     fn bound_stands(&self, problem: &Problem) -> bool
         requires { IsWalk problem.now self.now }
         ensures { IsTrue result ↔ StandsNext problem.now self.now bound_leaf }
@@ -286,6 +290,7 @@ impl Walk {
     }
 
     /// Goes on from a leaf that stands.
+    #[inline(always)]
     fn pass(&mut self, problem: &Problem)
         requires walks { IsWalk problem.now self.old }
         requires place { HasPlace self.old }
@@ -312,6 +317,7 @@ impl Walk {
     }
 
     /// Takes a bound leaf.
+    #[inline(always)]
     pub fn take_bound(&mut self, problem: &Problem)
         requires { IsWalk problem.now self.old }
         ensures walks { IsWalk problem.now self.new }

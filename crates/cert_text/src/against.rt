@@ -14,6 +14,7 @@ const FEW: usize = 3;
 const SOME: usize = 6;
 
 // Numbers with a blank behind each, and the bytes after them. None for want of memory.
+#[inline(always)]
 fn blank_numbers(alloc: Global, bytes: &[u8]) -> Option<(Vec<u64>, &[u8])>
     ensures { IfSome result (λ x. BlankNumbers bytes.now x.0.items x.1.now) }
 {
@@ -31,6 +32,7 @@ fn blank_numbers(alloc: Global, bytes: &[u8]) -> Option<(Vec<u64>, &[u8])>
 }
 
 // Numbers up to a LF, and the bytes after it.
+#[inline(always)]
 fn end_numbers(alloc: Global, bytes: &[u8]) -> Option<(Vec<u64>, &[u8])>
     ensures { IfSome result (λ x. EndNumbers bytes.now x.0.items x.1.now) }
 {
@@ -75,6 +77,7 @@ fn long_in(alloc: Global, bytes: &[u8]) -> Option<(u32, Evidence, &[u8])>
 }
 
 // After `late`.
+#[inline(always)]
 fn late_in(alloc: Global, bytes: &[u8]) -> Option<(u32, Evidence, &[u8])>
     ensures { IfSome result (λ x. BeginsAgainst (108 ∷ 97 ∷ 116 ∷ 101 ∷ 32 ∷ bytes.now) x.0 x.1 x.2.now) }
 {
@@ -92,6 +95,7 @@ fn late_in(alloc: Global, bytes: &[u8]) -> Option<(u32, Evidence, &[u8])>
 }
 
 // The bytes after a slash and a blank.
+#[inline(always)]
 fn after_slash(bytes: &[u8]) -> Option<&[u8]>
     ensures { IfSome result (λ x. bytes.now ≡ 47 ∷ 32 ∷ x.now) }
 {
@@ -104,6 +108,7 @@ fn after_slash(bytes: &[u8]) -> Option<&[u8]>
 }
 
 // The bytes after these two and a blank.
+#[inline(always)]
 fn after_two(bytes: &[u8], one: u8, other: u8) -> Option<&[u8]>
     ensures { IfSome result (λ x. bytes.now ≡ one ∷ other ∷ 32 ∷ x.now) }
 {
@@ -134,6 +139,7 @@ pub(crate) fn lacking_in(bytes: &[u8]) -> Option<(u32, &[u8])>
 
 /// The evidence whose line the bytes begin with, with its label, and the bytes after its LF. None where that
 /// isn't told, or for want of memory.
+#[inline(always)]
 pub(crate) fn against_in(alloc: Global, bytes: &[u8]) -> Option<(u32, Evidence, &[u8])>
     ensures { IfSome result (λ x. BeginsAgainst bytes.now x.0 x.1 x.2.now) }
 {

@@ -109,6 +109,7 @@ impl CertFeed {
 
     // The event of a line that tells a node whole, where that line stands in the piece of the file. None, and no
     // change, where it may be another line, or can't stand.
+    #[inline(always)]
     fn hear_node(&mut self) -> Option<Event>
         requires within { IsWithin self.old.source self.old.lines }
         requires closed { self.old.ended ≡ true }
@@ -128,6 +129,7 @@ impl CertFeed {
 
     // The evidence of the next line, where that line stands in the piece of the file. None, and no change, where
     // it may be another line, or can't stand.
+    #[inline(always)]
     fn take_evidence(&mut self) -> Option<(u32, Evidence)>
         requires within { IsWithin self.old.source self.old.lines }
         requires closed { self.old.ended ≡ true }
@@ -204,6 +206,7 @@ impl CertFeed {
     }
 
     // The next event.
+    #[inline(always)]
     fn hear_event<F: Folder>(&mut self, folder: &mut F, name: &str) -> Result<Event, FeedFault>
         requires within { IsWithin self.old.source self.old.lines }
         requires closed { self.old.ended ≡ true }
@@ -237,6 +240,7 @@ impl CertFeed {
     }
 
     // The next event, and at the last one whether the file ends.
+    #[inline(always)]
     fn go_on<F: Folder>(&mut self, folder: &mut F, name: &str) -> Result<Event, FeedFault>
         requires goes_on { MayGoOn self.old.position self.old.source self.old.lines }
         requires closed { self.old.ended ≡ true }

@@ -54,6 +54,7 @@ impl Hearing {
     }
 
     /// Hears a line of evidence, and gives the event that it ends.
+    #[inline(always)]
     pub fn add(
         &mut self,
         alloc: Global,

@@ -22,6 +22,7 @@ pub(crate) enum Node {
 
 impl Node {
     /// Its event.
+    #[inline(always)]
     pub fn event(self, alloc: Global) -> Event
         ensures { result ≡ node_event self }
     {
@@ -35,6 +36,7 @@ impl Node {
 }
 
 // An inner node, from its number on.
+#[inline(always)]
 fn inner_in(bytes: &[u8]) -> Option<(Node, &[u8])>
     ensures { IfSome result (λ x. BeginsNode (105 ∷ 32 ∷ bytes.now) x.0 x.1.now) }
 {
@@ -57,6 +59,7 @@ fn fail_in(bytes: &[u8]) -> Option<(Node, &[u8])>
 }
 
 /// The node whose line the bytes begin with, and the bytes after its LF.
+#[inline(always)]
 pub(crate) fn node_in(bytes: &[u8]) -> Option<(Node, &[u8])>
     ensures { IfSome result (λ x. BeginsNode bytes.now x.0 x.1.now) }
 {

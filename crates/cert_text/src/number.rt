@@ -6,6 +6,7 @@ const FITS: u64 = 1_844_674_407_370_955_160;
 
 /// The number whose digits the bytes begin with, the byte that ends them, and the bytes after it. None for all other
 /// bytes, and for some numbers from ten times `FITS` on.
+#[inline(always)]
 pub(crate) fn number_ended(bytes: &[u8]) -> Option<(u64, u8, &[u8])>
     ensures text { IfSome result (λ x. bytes.now ≡ decimal x.0 ++ x.1 ∷ x.2.now) }
     ensures small { IfSome result (λ x. x.0 < 2 ^ 64) }
@@ -30,6 +31,7 @@ pub(crate) fn number_ended(bytes: &[u8]) -> Option<(u64, u8, &[u8])>
 
 /// The number whose digits stand up to the first byte of this value, and the bytes after it. None for all other
 /// bytes, and for some numbers from ten times `FITS` on.
+#[inline(always)]
 pub(crate) fn number_until(bytes: &[u8], end: u8) -> Option<(u64, &[u8])>
     ensures text { IfSome result (λ x. bytes.now ≡ decimal x.0 ++ end ∷ x.1.now) }
     ensures small { IfSome result (λ x. x.0 < 2 ^ 64) }

@@ -298,6 +298,7 @@ impl Position {
     }
 
     /// Goes past the line of a node, where a tree may stand. Nothing changes where that isn't told, or for want of memory.
+    #[inline(always)]
     pub fn take_node(&mut self, node: Node) -> bool
         ensures taken { IsTrue result → after self.old (node_line node) ≡ Some self.new }
         ensures kept { result ≡ false → self.new ≡ self.old }
@@ -350,6 +351,7 @@ impl Position {
     }
 
     /// Goes past a line of evidence, where one may stand. Nothing changes where that isn't told.
+    #[inline(always)]
     pub fn take_against(&mut self) -> bool
         ensures taken { IsTrue result
             → (label : ℕ) (e : Evidence) → after self.old (line.AgainstLine label e) ≡ Some self.new }

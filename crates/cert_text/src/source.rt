@@ -133,6 +133,7 @@ impl Source {
     }
 
     /// The bytes that were read and not taken yet.
+    #[inline(always)]
     pub fn ahead(&self) -> &[u8]
         ensures { result.now ≡ self.now.left }
     {
@@ -140,6 +141,7 @@ impl Source {
     }
 
     /// Takes all up to these bytes, which are so many, and before which a line ends.
+    #[inline(always)]
     pub fn take_until(&mut self, after: usize)
         requires { after ≤ length self.old.left }
         ensures { (line rest : List ℕ) → self.old.left ≡ line ++ 10 ∷ rest → after ≡ length rest
