@@ -40,7 +40,7 @@ use Rattle.bandwidth_bound.proofs.Extend.{are_items, class_harder, class_in_rang
 
 -- ---- the order in which a frame is below the other ones of some frames
 
-drop-next : (p r : List ℕ) (own : ℕ) → drop (length p + 1) (p ++ own ∷ r) ≡ r
+pub drop-next : (p r : List ℕ) (own : ℕ) → drop (length p + 1) (p ++ own ∷ r) ≡ r
 drop-next [] r own = refl
 drop-next (x ∷ p) r own =
     let more : length (x ∷ p) + 1 ≡ suc (length p + 1) = omega arith in

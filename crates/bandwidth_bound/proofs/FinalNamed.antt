@@ -1,5 +1,5 @@
 -- The order in which a named frame is tried, and when the frames that are named are too many or out of order.
-use Rattle.std.proofs.Common.{◌≡◌, ℕ, zero, suc, ◌+◌, ◌-◌, ◌<◌, ◌≤◌, Bool, true, false, cond, List, [], ◌∷◌, ◌++◌, length, filter, nat_eq, All, Contains, get_or, sym, ap, subst, ◌∙◌, arith, append-nil, length-append}
+use Rattle.std.proofs.Common.{◌≡◌, ℕ, zero, suc, ◌+◌, ◌-◌, ◌<◌, ◌≤◌, Bool, true, false, cond, List, [], ◌∷◌, ◌++◌, length, filter, nat_eq, All, Contains, sym, ap, subst, ◌∙◌, arith, append-nil, length-append}
 use Rattle.std.specs.Prelude.{not}
 use Rattle.std.specs.List.{IsDistinct, range_with_len, list_any}
 use Rattle.std.specs.List.Sorted.{IsStrictlyIncreasing}
@@ -14,7 +14,7 @@ use Rattle.busy_period.specs.Timed.{IsInRange}
 use Rattle.busy_period.specs.Stage.{IsStage}
 use Rattle.response_test.specs.declared.evidence.Evidence.{Evidence}
 use Rattle.response_test.specs.Order.{others_of, remaining_of}
-use Rattle.bandwidth_bound.specs.Failing.{AreRefuted, RefutedBelow, numbers_of, order_below}
+use Rattle.bandwidth_bound.specs.Failing.{AreRefuted, numbers_of, order_below}
 use Rattle.bandwidth_bound.proofs.Final.{distinct_rising, order_stage}
 
 -- a filter of some numbers is not longer
@@ -100,13 +100,6 @@ length-refuted frames bit hyper named all =
       few_below members (length frames) (distinct_rising members all.ascending) all.there,
       length-map named (λ (entry : ℕ × Evidence). entry.0),
     )
-
--- each of them is refuted
-pub refuted-at : (frames : List Timed) (bit hyper : ℕ) (named : List (ℕ × Evidence)) (i : ℕ) (entry : ℕ × Evidence)
-    → i < length named → entry ≡ get_or named i entry → AreRefuted frames bit hyper named
-    → RefutedBelow frames bit hyper (numbers_of named) entry.0 entry.1
-refuted-at frames bit hyper named i entry lt is all =
-    subst (λ e. RefutedBelow frames bit hyper (numbers_of named) e.0 e.1) (sym is) (all.refuted i entry lt)
 
 -- a number that is a member is not kept
 pub remaining-skip : (members numbers : List ℕ) (number : ℕ) → list_any (nat_eq number) members ≡ true

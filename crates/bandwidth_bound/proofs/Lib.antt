@@ -7,6 +7,7 @@ pub mod FinalNamed
 pub mod FloorsItems
 pub mod FloorsRests
 pub mod Loads
+pub mod Orders
 pub mod PriceBound
 pub mod PriceFloors
 pub mod PriceFrames

@@ -6,9 +6,13 @@ use Rattle.response_test.specs.declared.evidence.Evidence.{Evidence}
 use Rattle.response_test.specs.Order.{others_of, remaining_of}
 use Rattle.response_test.specs.Refuted.{Refuted}
 
--- the order in which a frame is below the other ones of some frames, and above all remaining ones
+-- the order in which a frame is below the other ones of some frames, and above the rest
+abbrev pub order_with : ℕ → List ℕ → List ℕ → List ℕ
+order_with own members rest = others_of own members ++ own ∷ rest
+
+-- and above all remaining ones
 abbrev pub order_below : List Timed → List ℕ → ℕ → List ℕ
-order_below frames members own = others_of own members ++ own ∷ remaining_of frames members
+order_below frames members own = order_with own members (remaining_of frames members)
 
 -- evidence refutes a frame in that order
 abbrev pub RefutedBelow : List Timed → ℕ → ℕ → List ℕ → ℕ → Evidence → Type 0

@@ -1,17 +1,17 @@
 //! Whether frames that are named with evidence are refuted: each below the others that are named, and above
 //! all remaining ones.
-ghost use Rattle.std.specs.Prelude.{◌≡◌, ◌+◌, ◌<◌, ◌≤◌, ◌++◌, ◌∷◌, ◌↔◌, All, Contains, IsTrue, length, map, nat_eq};
+ghost use Rattle.std.specs.Prelude.{◌≡◌, ◌+◌, ◌<◌, ◌≤◌, ◌++◌, ◌∷◌, ◌↔◌, ℕ, List, All, IsTrue, length, map, nat_eq, slice_index};
 ghost use Rattle.std.specs.List.{list_any};
 ghost use Rattle.std.specs.List.Sorted.{IsStrictlyIncreasing};
 ghost use Rattle.busy_period.specs.Timed.{IsInRange};
 ghost use Rattle.response_test.specs.Order.{others_of, remaining_of};
 ghost use Rattle.response_test.specs.Queueing.{IsBit};
 ghost use Rattle.response_test.specs.Refuted.{IsCommon};
-ghost use Rattle.bandwidth_bound.specs.Failing.{AreRefuted, RefutedBelow, numbers_of};
+ghost use Rattle.bandwidth_bound.specs.Failing.{AreRefuted, RefutedBelow, numbers_of, order_with};
 
 use arrayvec::ArrayVec;
-use busy_period::Timed;
-use response_test::{Evidence, refuted};
+use busy_period::{Timed, blocking};
+use response_test::{Evidence, refuted_blocked};
 
 /// The numbers of the frames that are named.
 fn numbers(named: &[(u32, Evidence)]) -> ArrayVec<u32, 128>
@@ -103,31 +103,60 @@ pub fn order_below(members: &[u32], own: u32, remaining: &[u32]) -> ArrayVec<u32
     order
 }
 
-/// Whether evidence refutes a member below the other ones and above all remaining frames. The order is written
-/// in the place of the one before.
-fn is_refuted(
+/// Puts the member of number `k` below the other ones, where the one after it was before.
+fn go_back(order: &mut ArrayVec<u32, 128>, members: &[u32], k: usize)
+    requires inside { k + 1 < length members.now }
+    requires ascending { IsStrictlyIncreasing members.now }
+    requires room { length members.now ≤ length order.old.items }
+    ensures below { (rest : List ℕ)
+        → order.old.items ≡ order_with (slice_index members.now (k + 1)) members.now rest
+        → order.new.items ≡ order_with (slice_index members.now k) members.now rest }
+{
+    order.as_mut_slice().swap(k, members.len() - 1);
+}
+
+/// Whether evidence refutes each member below the other ones and above all remaining frames. The orders of two members
+/// that follow each other differ in two places.
+fn are_refuted(
     frames: &[Timed],
     bit: u64,
     hyper: u64,
     members: &[u32],
-    remaining: &[u32],
-    order: &mut ArrayVec<u32, 128>,
-    own: u32,
-    evidence: &Evidence,
+    named: &[(u32, Evidence)],
 ) -> bool
     requires few { length frames.now ≤ 128 }
     requires in_range { All IsInRange frames.now }
     requires bit { IsBit frames.now bit }
     requires hyper { IsCommon frames.now hyper }
+    requires some { 0 < length named.now }
+    requires members { members.now ≡ numbers_of named.now }
     requires there { All (λ number. number < length frames.now) members.now }
     requires ascending { IsStrictlyIncreasing members.now }
-    requires remaining { remaining.now ≡ remaining_of frames.now members.now }
-    requires member { Contains members.now own }
-    ensures { IsTrue result ↔ RefutedBelow frames.now bit hyper members.now own evidence.now }
+    ensures { IsTrue result
+        ↔ All (λ entry. RefutedBelow frames.now bit hyper members.now entry.0 entry.1) named.now }
 {
-    write_below(order, members, own, remaining);
-    let place = order.len() - remaining.len() - 1;
-    refuted(frames, order.as_slice(), place, bit, hyper, evidence)
+    let rest = remaining(frames, members);
+    let last = members.len() - 1;
+    let mut order = order_below(members, members[last], rest.as_slice());
+    let blocked = blocking(frames, order.as_slice(), last);
+    for k in (0..members.len()).rev() {
+        let evidence = &named[k].1;
+        if !refuted_blocked(
+            frames,
+            order.as_slice(),
+            last,
+            blocked,
+            bit,
+            hyper,
+            evidence,
+        ) {
+            return false;
+        }
+        if k > 0 {
+            go_back(&mut order, members, k - 1);
+        }
+    }
+    true
 }
 
 /// Whether frames are named by ascending number, at least one, each with evidence that refutes it below the
@@ -148,21 +177,5 @@ pub fn refutes(frames: &[Timed], bit: u64, hyper: u64, named: &[(u32, Evidence)]
     if !ascend(members.as_slice()) || !are_there(members.as_slice(), frames.len()) {
         return false;
     }
-    let rest = remaining(frames, members.as_slice());
-    let mut order = ArrayVec::new();
-    for (own, evidence) in named {
-        if !is_refuted(
-            frames,
-            bit,
-            hyper,
-            members.as_slice(),
-            rest.as_slice(),
-            &mut order,
-            *own,
-            evidence,
-        ) {
-            return false;
-        }
-    }
-    true
+    are_refuted(frames, bit, hyper, members.as_slice(), named)
 }
